@@ -1,0 +1,4 @@
+pub mod Pasted
+pub mod Sounded
+pub mod Places
+pub mod Accepting

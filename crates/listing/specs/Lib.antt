@@ -1,0 +1,4 @@
+pub mod Room
+pub mod Texts
+pub mod Lines
+pub mod Listed

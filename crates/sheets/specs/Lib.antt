@@ -1,0 +1,4 @@
+pub mod Layout
+pub mod Order
+pub mod Shown
+pub mod Inner

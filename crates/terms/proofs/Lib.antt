@@ -1,0 +1,11 @@
+pub mod Checked
+pub mod Counts
+pub mod Runs
+pub mod Steps
+pub mod Coded
+pub mod Bests
+pub mod Leasts
+pub mod Reading
+pub mod Near
+pub mod Numbering
+pub mod OneBest

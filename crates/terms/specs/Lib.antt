@@ -1,0 +1,10 @@
+pub mod Limits
+pub mod Refusals
+pub mod Figures
+pub mod Closest
+pub mod Told
+pub mod Marks
+pub mod Codes
+pub mod Reading
+pub mod Near
+pub mod Examples
