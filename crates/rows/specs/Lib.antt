@@ -1,0 +1,9 @@
+pub mod Laws
+pub mod Marks
+pub mod Lamps
+pub mod Rows
+pub mod OneLeast
+pub mod PlainSums
+pub mod TreeRows
+pub mod LampTrees
+pub mod LampRings
