@@ -1,0 +1,14 @@
+pub mod Entries
+pub mod Rings
+pub mod Lifting
+pub mod Bridge
+pub mod Marked
+pub mod Counted
+pub mod Recalling
+pub mod Tracking
+pub mod Ran
+pub mod Following
+pub mod Starts
+pub mod Shown
+pub mod One
+pub mod Cutting

@@ -1,0 +1,5 @@
+pub mod Readings
+pub mod Outcomes
+pub mod Laws
+pub mod Chains
+pub mod Promises
