@@ -1,5 +1,7 @@
 // Lists each sheet that an argument names, under its name. After the word `cut` a sheet is listed cut off after each
 // of its bytes.
+#![tactic(auto)]
+
 use listing::list::list;
 use std::io::Write;
 use std::{env, fs, io};

@@ -1,4 +1,6 @@
 // The worked examples and each refusal, through the public calls of the direct finder.
+#![tactic(auto)]
+
 #[cfg(test)]
 mod tests {
     use direct::find::closest;

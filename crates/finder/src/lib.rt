@@ -1,4 +1,6 @@
 // The slot, its rolling and its closed take, and what a closed take hands out.
+#![tactic(auto)]
+
 mod driving;
 pub mod ones;
 mod recent;

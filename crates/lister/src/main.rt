@@ -1,4 +1,6 @@
 // Reads a sheet from standard input and prints its lines.
+#![tactic(auto)]
+
 use listing::list::list;
 use sheets::read::reading_limit;
 use std::io;

@@ -1,4 +1,6 @@
 // A sheet to lines.
+#![tactic(auto)]
+
 pub mod line;
 pub mod list;
 pub mod made;

@@ -1,5 +1,7 @@
 // Both readers on the examples, with a few hand-made takes. What is proved of every input needs no test; these show
 // that the compiled code runs, and what its numbers look like.
+#![tactic(auto)]
+
 #[cfg(test)]
 mod tests {
     use readers::listen::listen;

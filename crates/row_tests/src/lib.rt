@@ -1,4 +1,6 @@
 // Examples of rows and of the lamp's ring, through the public calls.
+#![tactic(auto)]
+
 #[cfg(test)]
 mod tests {
     use rows::lamp_ring::LampRing;

@@ -1,4 +1,6 @@
 // Rows of marks and their least sum, in a list or in a tree; and the lamp's ring.
+#![tactic(auto)]
+
 mod lamp;
 pub mod lamp_ring;
 pub mod mark;

@@ -1,4 +1,6 @@
 // Reads a sheet: a kind letter, q, a phrase and a take.
+#![tactic(auto)]
+
 pub mod fault;
 mod head;
 mod judge;

@@ -22,7 +22,9 @@ pub enum Lane {
 
 // The constants of lanes, pinned.
 pub fn lane_constants() -> (u32, usize)
-    ensures* { do ⌜ (← (⟦Lane::SOUNDS⟧).entry) ≡ 4 ⌝ ∗ ⌜ (← (⟦Lane::BYTES⟧).entry) ≡ 1 ⌝ ∗ ⌜ (result.0 ≡ 4) × (result.1 ≡ 1) ⌝ }
+    ensures sounds { Lane.SOUNDS ≡ 4 }
+    ensures bytes { Lane.BYTES ≡ 1 }
+    ensures told { (result.0 ≡ 4) × (result.1 ≡ 1) }
 {
     (Lane::SOUNDS, Lane::BYTES)
 }

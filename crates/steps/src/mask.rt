@@ -12,7 +12,9 @@ pub struct Mask(pub u16);
 
 // The constants of masks, pinned.
 pub fn mask_constants() -> (u32, usize)
-    ensures* { do ⌜ (← (⟦Mask::SOUNDS⟧).entry) ≡ 65536 ⌝ ∗ ⌜ (← (⟦Mask::BYTES⟧).entry) ≡ 2 ⌝ ∗ ⌜ (result.0 ≡ 65536) × (result.1 ≡ 2) ⌝ }
+    ensures sounds { Mask.SOUNDS ≡ 65536 }
+    ensures bytes { Mask.BYTES ≡ 2 }
+    ensures told { (result.0 ≡ 65536) × (result.1 ≡ 2) }
 {
     (Mask::SOUNDS, Mask::BYTES)
 }

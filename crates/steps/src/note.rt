@@ -17,7 +17,9 @@ pub struct Note {
 
 // The constants of notes, pinned.
 pub fn note_constants() -> (u32, usize)
-    ensures* { do ⌜ (← (⟦Note::SOUNDS⟧).entry) ≡ 47 ⌝ ∗ ⌜ (← (⟦Note::BYTES⟧).entry) ≡ 3 ⌝ ∗ ⌜ (result.0 ≡ 47) × (result.1 ≡ 3) ⌝ }
+    ensures sounds { Note.SOUNDS ≡ 47 }
+    ensures bytes { Note.BYTES ≡ 3 }
+    ensures told { (result.0 ≡ 47) × (result.1 ≡ 3) }
 {
     (Note::SOUNDS, Note::BYTES)
 }

@@ -1,4 +1,6 @@
 // The words that everybody uses: limits, refusals and answers, and in specs/ the definitions that all contracts rest on.
+#![tactic(auto)]
+
 pub mod answer;
 pub mod limits;
 pub mod refusal;
