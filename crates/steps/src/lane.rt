@@ -22,8 +22,8 @@ pub enum Lane {
 
 // The constants of lanes, pinned.
 pub fn lane_constants() -> (u32, usize)
-    ensures sounds { Lane.SOUNDS ≡ 4 }
-    ensures bytes { Lane.BYTES ≡ 1 }
+    ensures sounds { ⟦<Lane as Step>⟧.SOUNDS ≡ 4 }
+    ensures bytes { ⟦<Lane as Step>⟧.BYTES ≡ 1 }
     ensures told { (result.0 ≡ 4) × (result.1 ≡ 1) }
 {
     (Lane::SOUNDS, Lane::BYTES)
@@ -46,6 +46,10 @@ impl Step for Lane {
     const SOUNDS: u32 = 4;
 
     const BYTES: usize = 1;
+
+    ghost SOUNDS = { 4 };
+
+    ghost BYTES = { 1 };
 
     ghost sound = { lane_sound };
 

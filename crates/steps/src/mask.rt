@@ -12,8 +12,8 @@ pub struct Mask(pub u16);
 
 // The constants of masks, pinned.
 pub fn mask_constants() -> (u32, usize)
-    ensures sounds { Mask.SOUNDS ≡ 65536 }
-    ensures bytes { Mask.BYTES ≡ 2 }
+    ensures sounds { ⟦<Mask as Step>⟧.SOUNDS ≡ 65536 }
+    ensures bytes { ⟦<Mask as Step>⟧.BYTES ≡ 2 }
     ensures told { (result.0 ≡ 65536) × (result.1 ≡ 2) }
 {
     (Mask::SOUNDS, Mask::BYTES)
@@ -23,6 +23,10 @@ impl Step for Mask {
     const SOUNDS: u32 = 65_536;
 
     const BYTES: usize = 2;
+
+    ghost SOUNDS = { 65536 };
+
+    ghost BYTES = { 2 };
 
     ghost sound = { mask_sound };
 

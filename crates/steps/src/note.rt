@@ -17,8 +17,8 @@ pub struct Note {
 
 // The constants of notes, pinned.
 pub fn note_constants() -> (u32, usize)
-    ensures sounds { Note.SOUNDS ≡ 47 }
-    ensures bytes { Note.BYTES ≡ 3 }
+    ensures sounds { ⟦<Note as Step>⟧.SOUNDS ≡ 47 }
+    ensures bytes { ⟦<Note as Step>⟧.BYTES ≡ 3 }
     ensures told { (result.0 ≡ 47) × (result.1 ≡ 3) }
 {
     (Note::SOUNDS, Note::BYTES)
@@ -64,6 +64,10 @@ impl Step for Note {
     const SOUNDS: u32 = 47;
 
     const BYTES: usize = 3;
+
+    ghost SOUNDS = { 47 };
+
+    ghost BYTES = { 3 };
 
     ghost sound = { note_sound };
 

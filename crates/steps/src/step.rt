@@ -14,6 +14,11 @@ pub trait Step: Copy {
     // The bytes of a step in a sheet.
     const BYTES: usize;
 
+    // The two constants, for clauses.
+    ghost SOUNDS: { ℕ };
+
+    ghost BYTES: { ℕ };
+
     // A step's sound number, and the count of sounds.
     ghost sound: { Self → ℕ };
 
