@@ -6,7 +6,7 @@ pub returns : goal.returns
 returns g c =
     let ph = c.args.phrase.now in
     let q = c.args.q in
-    let ok = c.in-ok-load.ensures.exact in
+    let ok = c.in_ok-load.ensures.exact in
     let ac = accepted (g.R.Reader.reaches c.args.c) ph q c.args.c ok.0 in
-    let e = always_answers ph q _ _ c.hear-all.result ac.some (c.hear-all.ensures.from_empty_end ph q ok.1) in
+    let e = always_answers ph q _ _ c.hear_all.result ac.some (c.hear_all.ensures.from_empty_end ph q ok.1) in
     (ok.0, cc)

@@ -39,8 +39,8 @@ enter-next-requires c =
     let n = few.0 in
     record { inside = omega arith; few = omega arith }
 
-pub offset-bounds-codes-number : goal.offset-bounds-codes-number
-offset-bounds-codes-number c =
+pub offset_bounds-codes-number : goal.offset_bounds-codes-number
+offset_bounds-codes-number c =
     let ph = c.args.phrase.now in
     let b = c.args.window.base in
     let q = c.args.window.width in

@@ -13,20 +13,15 @@ returns-then-self-eq0 c =
     let z : s.len ≡ 0 = omega arith in
     hear_none s.len p s.window.width (remembered s.window.width p (shown s.window)) c.args.sound z
 
-pub invariant-of-self : goal.invariant-of-self
-invariant-of-self c =
+pub invariant_of-self : goal.invariant_of-self
+invariant_of-self c =
     let s = c.args.self.now in
-    let p = take s.len s.sounds in (
-      s.numbers,
-      (
-        s.places,
-        (
-          ∣ (λ z. slides_moved p _ _ _ _ s.codes s.counts c.slide.ensures.base c.slide.ensures.width
-              (slides_out s.len p s.window.base s.window.width s.codes s.counts s.kept z)) ∣₁,
-          tt,
-        ),
-      ),
-    )
+    let p = take s.len s.sounds in record {
+      numbers = s.numbers;
+      places = s.places;
+      kept = ∣ (λ z. slides_moved p _ _ _ _ s.codes s.counts c.slide.ensures.base c.slide.ensures.width
+          (slides_out s.len p s.window.base s.window.width s.codes s.counts s.kept z)) ∣₁;
+    }
 
 -- a window that is not full, and a full one
 pub returns-then-self : goal.returns-then-self

@@ -8,13 +8,13 @@ use Rattle.readers.proofs.sliding.SlidingReaderReader.load.Goals as goal
 
 pub new-window-requires : goal.new-window-requires
 new-window-requires c =
-    let ac = accepted _ c.args.phrase.now c.args.q c.args.c c.in-ok-judge.ensures in
+    let ac = accepted _ c.args.phrase.now c.args.q c.args.c c.in_ok-judge.ensures in
     let r = reached c.args.c c.args.q ac.some (subst (λ v. c.args.q ≤ v) c.reach.ensures ac.reached) in
     record { based = r.0; wide = ac.some; small = r.1 }
 
-pub invariant-of-self : goal.invariant-of-self
-invariant-of-self c =
-    let ac = accepted _ c.args.phrase.now c.args.q c.args.c c.in-ok-judge.ensures in
+pub invariant_of-self : goal.invariant_of-self
+invariant_of-self c =
+    let ac = accepted _ c.args.phrase.now c.args.q c.args.c c.in_ok-judge.ensures in
     let w = c.new-window.result in
     let t = c.tabled in
     let k : Slides c.args.phrase.now w.base w.width c.tabled.result.0 c.tabled.result.1 = record {
@@ -22,11 +22,15 @@ invariant-of-self c =
       tabled = c.tabled.ensures.codes;
       counted = c.tabled.ensures.counts;
     } in
-    (c.tabled.ensures.long, (c.tabled.ensures.wide, (∣ (λ z. subst (λ v. Slides v w.base w.width c.tabled.result.0 c.tabled.result.1) (sym c.copied.ensures) k) ∣₁, tt)))
+    record {
+      numbers = c.tabled.ensures.long;
+      places = c.tabled.ensures.wide;
+      kept = ∣ (λ z. subst (λ v. Slides v w.base w.width c.tabled.result.0 c.tabled.result.1) (sym c.copied.ensures) k) ∣₁;
+    }
 
 pub returns : goal.returns
 returns c =
-    let ok = c.in-ok-judge.ensures in
+    let ok = c.in_ok-judge.ensures in
     let ac = accepted _ c.args.phrase.now c.args.q c.args.c ok in
     let f = ac.filled in
     let ph = c.args.phrase.now in record {

@@ -20,7 +20,7 @@ pub returns-then-at-eq0 : goal.returns-then-at-eq0
 returns-then-at-eq0 c =
     let s = c.args.self.now in
     let k = keeps_out s.len (take s.len s.sounds) s.q s.here s.table.count s.table.states s.counts s.kept c.requires in
-    record { inside = k.runs.some; longest = follow_end _ _ _ _ _ _ k c.loop-child.at c.args.sound c.loop-child.invariant.0 c.if-at-eq0.true c.in-default.ensures ∙ c.loop-child.invariant.1 }
+    record { inside = k.runs.some; longest = follow_end _ _ _ _ _ _ k c.loop-child.at c.args.sound c.loop-child.invariant.0 c.if-at-eq0.true c.in_default.ensures ∙ c.loop-child.invariant.1 }
 
 pub loop-child-smaller : goal.loop-child-smaller
 loop-child-smaller c =
@@ -37,4 +37,4 @@ loop-child-preserved c =
     let k = keeps_out s.len (take s.len s.sounds) s.q s.here s.table.count s.table.states s.counts s.kept c.requires in
     let h = c.loop-child.invariant.0 in
     let z : 0 < c.loop-child.at = omega arith in
-    (k.runs.shorter_in c.loop-child.at z h, follow_on _ _ _ _ _ _ k c.loop-child.at c.args.sound h c.if-at-eq0.false c.in-default.ensures ∙ c.loop-child.invariant.1)
+    (k.runs.shorter_in c.loop-child.at z h, follow_on _ _ _ _ _ _ k c.loop-child.at c.args.sound h c.if-at-eq0.false c.in_default.ensures ∙ c.loop-child.invariant.1)

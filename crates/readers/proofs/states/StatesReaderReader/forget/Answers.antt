@@ -5,19 +5,16 @@ use Rattle.readers.specs.Hearing.{at_state}
 use Rattle.readers.specs.Meant.{forget_is}
 use Rattle.readers.proofs.states.StatesReaderReader.forget.Goals as goal
 
-pub invariant-of-self : goal.invariant-of-self
-invariant-of-self c =
+pub invariant_of-self : goal.invariant_of-self
+invariant_of-self c =
     let s = c.args.self.now in
-    let p = take s.len s.sounds in (
-      s.numbers,
-      (
-        ∣ (λ z.
-            let k = keeps_out s.len p s.q s.here s.table.count s.table.states s.counts s.kept z in
-            let h = k.inside in
-            at_state p s.q s.here s.table.count s.table.states s.counts k _ (omega arith)) ∣₁,
-        tt,
-      ),
-    )
+    let p = take s.len s.sounds in record {
+      numbers = s.numbers;
+      kept = ∣ (λ z.
+          let k = keeps_out s.len p s.q s.here s.table.count s.table.states s.counts s.kept z in
+          let h = k.inside in
+          at_state p s.q s.here s.table.count s.table.states s.counts k _ (omega arith)) ∣₁;
+    }
 
 -- the state 0 is the empty run
 pub returns : goal.returns

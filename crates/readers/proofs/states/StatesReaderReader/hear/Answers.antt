@@ -12,18 +12,15 @@ returns-then-self-eq0 c =
     let z : s.len ≡ 0 = omega arith in
     hear_none s.len p s.q (run p (nodes s.table.states s.here)) c.args.sound z
 
-pub invariant-of-self : goal.invariant-of-self
-invariant-of-self c =
+pub invariant_of-self : goal.invariant_of-self
+invariant_of-self c =
     let s = c.args.self.now in
     let p = take s.len s.sounds in
-    let f = c.follow-state.ensures.inside in (
-      s.numbers,
-      (
-        ∣ (λ z. at_state p s.q s.here s.table.count s.table.states s.counts
-            (keeps_out s.len p s.q s.here s.table.count s.table.states s.counts s.kept z) _ (omega arith)) ∣₁,
-        tt,
-      ),
-    )
+    let f = c.follow-state.ensures.inside in record {
+      numbers = s.numbers;
+      kept = ∣ (λ z. at_state p s.q s.here s.table.count s.table.states s.counts
+          (keeps_out s.len p s.q s.here s.table.count s.table.states s.counts s.kept z) _ (omega arith)) ∣₁;
+    }
 
 -- the new state is the longest end, and its code is what is answered
 pub returns : goal.returns

@@ -8,17 +8,20 @@ use Rattle.readers.proofs.Loading.{keeps_built}
 use Rattle.readers.specs.Meant.{meant_held}
 use Rattle.readers.proofs.states.StatesReaderReader.load.Goals as goal
 
-pub invariant-of-self : goal.invariant-of-self
-invariant-of-self c =
-    let ok = c.in-ok-judge.ensures in
+pub invariant_of-self : goal.invariant_of-self
+invariant_of-self c =
+    let ok = c.in_ok-judge.ensures in
     let ac = accepted _ c.args.phrase.now c.args.q c.args.c ok in
     let t = c.number-counts.new.self in
     let k = keeps_built c.args.phrase.now c.args.q t.count _ _ t.states _ c.number-counts.result ac.some c.build.ensures.built c.number-counts.ensures.count c.number-counts.ensures.same c.number-counts.ensures.codes c.number-counts.ensures.counts in
-    (c.number-counts.ensures.long, (∣ (λ z. subst (λ v. Keeps v c.args.q 0 t.count t.states c.number-counts.result) (sym c.copied.ensures) k) ∣₁, tt))
+    record {
+      numbers = c.number-counts.ensures.long;
+      kept = ∣ (λ z. subst (λ v. Keeps v c.args.q 0 t.count t.states c.number-counts.result) (sym c.copied.ensures) k) ∣₁;
+    }
 
 pub returns : goal.returns
 returns c =
-    let ok = c.in-ok-judge.ensures in
+    let ok = c.in_ok-judge.ensures in
     let ac = accepted _ c.args.phrase.now c.args.q c.args.c ok in
     let t = c.number-counts.new.self in
     let ph = c.args.phrase.now in

@@ -4,5 +4,9 @@ use Rattle.readers.proofs.Starts.{tree_start}
 use Rattle.terms.specs.Limits.{most_states}
 use Rattle.readers.proofs.table.Table.new.Goals as goal
 
-pub invariant-of-result : goal.invariant-of-result
-invariant-of-result c = (refl, (omega arith, (∣ tree_start (nodes (replicate most_states blank)) refl ∣₁, tt)))
+pub invariant_of-result : goal.invariant_of-result
+invariant_of-result c = record {
+  long = refl;
+  room = omega arith;
+  tree = ∣ tree_start (nodes (replicate most_states blank)) refl ∣₁;
+}

@@ -10,8 +10,8 @@ use Rattle.readers.proofs.table.Table.number.Goals as goal
 pub loop-at-init : goal.loop-at-init
 loop-at-init c = (refl, numbered_start _ _ _ c.requires.fresh, counts_start (replicate most_places 0) (zeros most_places), refl)
 
-pub give-code-codes-requires : goal.give-code-codes-requires
-give-code-codes-requires c =
+pub give_code-codes-requires : goal.give_code-codes-requires
+give_code-codes-requires c =
     let e = c.loop-at.invariant.0 in
     let t = (c.requires.built.todo c.loop-at.at (omega arith) (omega arith)).in_table in
     let f = few_codes c.args.phrase.now c.args.longest c.loop-at.at _ _ c.loop-at.self.states c.loop-at.codes c.loop-at.invariant.1 in
@@ -20,7 +20,7 @@ give-code-codes-requires c =
 pub tally-requires : goal.tally-requires
 tally-requires c =
     let e = c.loop-at.invariant.0 in
-    let new = c.give-code-codes in
+    let new = c.give_code-codes in
     let s = turn_small c.args.phrase.now c.args.longest c.loop-at.at _ _ c.args.places.now c.requires.built c.requires.some (omega arith)
     c.loop-at.self.states new.new.self.states c.loop-at.codes new.result (omega arith) c.loop-at.invariant.1 new.ensures.given in
     let f = few_counts c.args.phrase.now c.args.longest c.loop-at.at c.loop-at.counts
@@ -32,7 +32,7 @@ loop-at-preserved c =
     let ph = c.args.phrase.now in
     let q = c.args.longest in
     let at = c.loop-at.at in
-    let new = c.give-code-codes in
+    let new = c.give_code-codes in
     let e = c.loop-at.invariant.0 in
     let hi : at + q ≤ length ph = omega arith in
     let hl : c.args.self.now.count ≤ length c.loop-at.self.states = omega arith in

@@ -3,8 +3,15 @@ use native.Mathlib.Nat.{one-le-pow}
 use Rattle.readers.proofs.window.Window.clear.Goals as goal
 
 -- the number 0 has any count of digits
-pub invariant-of-self : goal.invariant-of-self
-invariant-of-self c =
+pub invariant_of-self : goal.invariant_of-self
+invariant_of-self c =
     let s = c.args.self.now in
     let f = s.full in
-    (s.based, (s.wide, (s.powered, (s.small, (omega arith, (one-le-pow _ s.base s.based, tt))))))
+    record {
+      based = s.based;
+      wide = s.wide;
+      powered = s.powered;
+      small = s.small;
+      full = omega arith;
+      below = one-le-pow _ s.base s.based;
+    }

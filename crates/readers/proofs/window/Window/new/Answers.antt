@@ -5,10 +5,10 @@ use Rattle.readers.proofs.window.Window.new.Goals as goal
 pub loop-i-init : goal.loop-i-init
 loop-i-init c = sym (pow-zero c.args.base)
 
-pub overflow-mul-power : goal.overflow-mul-power
-overflow-mul-power c =
+pub overflow_mul-power : goal.overflow_mul-power
+overflow_mul-power c =
     let b = c.args.base in
-    let i = c.loop-i.-i in
+    let i = c.loop-i._i in
     let e = ap (λ v. v * b) c.loop-i.invariant ∙ sym (pow-suc b i) ∙ ap (λ v. b ^ v) (sym (add-one i)) in
     let l : i + 1 ≤ c.args.width = omega arith in
     let m : b ^ (i + 1) ≤ b ^ c.args.width = pow-le-pow_right c.requires.based l in
@@ -18,11 +18,18 @@ overflow-mul-power c =
 pub loop-i-preserved : goal.loop-i-preserved
 loop-i-preserved c =
     let b = c.args.base in
-    let i = c.loop-i.-i in
+    let i = c.loop-i._i in
     ap (λ v. v * b) c.loop-i.invariant ∙ sym (pow-suc b i) ∙ ap (λ v. b ^ v) (sym (add-one i))
 
-pub invariant-of-result : goal.invariant-of-result
-invariant-of-result c =
-    let e : c.loop-i.-i ≡ c.args.width - 1 = omega arith in
+pub invariant_of-result : goal.invariant_of-result
+invariant_of-result c =
+    let e : c.loop-i._i ≡ c.args.width - 1 = omega arith in
     let z = pow-zero c.args.base in
-    (c.requires.based, (c.requires.wide, (c.loop-i.invariant ∙ ap (λ v. c.args.base ^ v) e, (c.requires.small, (omega arith, (omega arith, tt))))))
+    record {
+      based = c.requires.based;
+      wide = c.requires.wide;
+      powered = c.loop-i.invariant ∙ ap (λ v. c.args.base ^ v) e;
+      small = c.requires.small;
+      full = omega arith;
+      below = omega arith;
+    }

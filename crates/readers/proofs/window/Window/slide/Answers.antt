@@ -14,35 +14,49 @@ returns-then-digit-self c =
       digits = e ∙ sym (slid_none s.base s.width (digits s.base s.heard s.number) c.args.sound (omega arith));
     }
 
-pub nonzero-rem-self : goal.nonzero-rem-self
-nonzero-rem-self c = let s = c.args.self.now in power_some s.base s.width s.power s.based s.powered
+pub nonzero_rem-self : goal.nonzero_rem-self
+nonzero_rem-self c = let s = c.args.self.now in power_some s.base s.width s.power s.based s.powered
 
-pub overflow-mul-self : goal.overflow-mul-self
-overflow-mul-self c =
+pub overflow_mul-self : goal.overflow_mul-self
+overflow_mul-self c =
     let s = c.args.self.now in
     let f = fits s.base s.width s.power s.number c.args.sound s.based s.wide s.powered c.if-digit-self.false in
     let l = s.small in
     omega arith
 
-pub overflow-add-self : goal.overflow-add-self
-overflow-add-self c =
+pub overflow_add-self : goal.overflow_add-self
+overflow_add-self c =
     let s = c.args.self.now in
     let f = fits s.base s.width s.power s.number c.args.sound s.based s.wide s.powered c.if-digit-self.false in
     let l = s.small in
     omega arith
 
-pub invariant-of-self : goal.invariant-of-self
-invariant-of-self c =
+pub invariant_of-self : goal.invariant_of-self
+invariant_of-self c =
     let s = c.args.self.now in
     let t : s.heard < s.width = omega arith in
-    (s.based, (s.wide, (s.powered, (s.small, (omega arith, (below_more s.base s.width s.power s.number s.heard c.args.sound s.based t s.powered s.below c.if-digit-self.false, tt))))))
+    record {
+      based = s.based;
+      wide = s.wide;
+      powered = s.powered;
+      small = s.small;
+      full = omega arith;
+      below = below_more s.base s.width s.power s.number s.heard c.args.sound s.based t s.powered s.below c.if-digit-self.false;
+    }
 
-pub invariant-of-self-else-self : goal.invariant-of-self-else-self
-invariant-of-self-else-self c =
+pub invariant_of-self-else-self : goal.invariant_of-self-else-self
+invariant_of-self-else-self c =
     let s = c.args.self.now in
     let e : s.heard ≡ s.width = omega (arith, s.full) in
     let f = fits s.base s.width s.power s.number c.args.sound s.based s.wide s.powered c.if-digit-self.false in
-    (s.based, (s.wide, (s.powered, (s.small, (s.full, (rw e f, tt))))))
+    record {
+      based = s.based;
+      wide = s.wide;
+      powered = s.powered;
+      small = s.small;
+      full = s.full;
+      below = rw e f;
+    }
 
 pub returns-then-self : goal.returns-then-self
 returns-then-self c =
