@@ -1,5 +1,5 @@
 -- What a sliding reader means, by its window.
-use Rattle.std.proofs.Common.{◌≡◌, ℕ, ◌-◌, ◌^◌, ◌<◌, ◌≤◌, List, [], get_or, sym, refl, ap, ◌∙◌, subst, ap₂, arith}
+use Rattle.std.proofs.Common.{◌≡◌, ℕ, ◌^◌, ◌<◌, ◌≤◌, List, [], get_or, sym, refl, ap, ◌∙◌, subst, ap₂, arith}
 use Rattle.terms.specs.Figures.{figures}
 use Rattle.terms.specs.Codes.{code}
 use Rattle.terms.specs.Reading.{remembered, answered}

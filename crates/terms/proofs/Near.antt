@@ -1,4 +1,4 @@
-use Rattle.std.proofs.Common.{◌≡◌, ℕ, zero, suc, ◌+◌, ◌-◌, ◌<◌, ◌≤◌, min, List, [], ◌∷◌, ◌++◌, length, take, drop, ℤ, pos, ◌+ℤ◌, sym, refl, ap, ◌∙◌, subst, inl, inr, arith}
+use Rattle.std.proofs.Common.{◌≡◌, ℕ, ◌+◌, ◌-◌, ◌<◌, ◌≤◌, List, [], ◌∷◌, ◌++◌, length, drop, sym, ap, ◌∙◌, inl, inr, arith}
 use borrow.Author.Differences.{ints}
 use lib.Seq.{take-length}
 use Rattle.std.proofs.lemmas.Bool.{cases_lt}
@@ -6,7 +6,7 @@ use Rattle.std.proofs.lemmas.List.{length-drop}
 use Rattle.terms.specs.Figures.{gap, gap_over, figures, different, count, Covers}
 use Rattle.terms.specs.Marks.{marks, total}
 use Rattle.terms.specs.Closest.{Closest, stretch}
-use Rattle.terms.specs.Near.{Near, AlwaysNear}
+use Rattle.terms.specs.Near.{AlwaysNear}
 use Rattle.terms.proofs.Counts.{over_all_figures, over_swap, covers_swap, different_covers, different_once, different_none, count_append, gap_marks, gap_far}
 use Rattle.terms.proofs.Runs.{length_figures, figures_short}
 

@@ -1,8 +1,8 @@
 -- A take with a step in it has just one best stretch.
-use Rattle.std.proofs.Common.{◌≡◌, ℕ, zero, suc, ◌+◌, ◌-◌, ◌<◌, ◌≤◌, List, [], ◌∷◌, ◌++◌, length, get_or, take, sym, refl, subst, inl, inr, arith, take-suc}
+use Rattle.std.proofs.Common.{ℕ, zero, suc, ◌+◌, ◌-◌, ◌<◌, ◌≤◌, List, [], ◌∷◌, ◌++◌, length, get_or, take, sym, refl, subst, inl, inr, arith, take-suc}
 use Rattle.std.proofs.lemmas.Bool.{cases_lt}
 use Rattle.std.proofs.lemmas.List.{take_all}
-use Rattle.terms.specs.Closest.{Best, BestRule, OneBest, AlwaysOneBest}
+use Rattle.terms.specs.Closest.{Best, AlwaysOneBest}
 use Rattle.terms.proofs.Bests.{best_by_steps_lem, best_unique}
 use Rattle.terms.proofs.Leasts.{always_one_closest}
 

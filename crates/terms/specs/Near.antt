@@ -1,5 +1,5 @@
 -- Laws of the gap, and what they say of answers.
-use Rattle.std.specs.Prelude.{◌≡◌, ℕ, ◌+◌, ◌-◌, ◌≤◌, List, length}
+use Rattle.std.specs.Prelude.{◌≡◌, ℕ, ◌+◌, ◌≤◌, List, length}
 use Rattle.terms.specs.Figures.{gap}
 use Rattle.terms.specs.Closest.{Closest, stretch}
 

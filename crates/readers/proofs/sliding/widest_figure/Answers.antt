@@ -1,4 +1,4 @@
-use Rattle.std.proofs.Common.{◌-◌, ◌*◌, ◌^◌, sym, ap, ◌∙◌, inl, inr, mul-le-mul_right, pow-suc, add-one, arith}
+use Rattle.std.proofs.Common.{◌*◌, ◌^◌, sym, ap, ◌∙◌, inl, inr, mul-le-mul_right, pow-suc, add-one, arith}
 use native.Mathlib.Nat.{pow-zero}
 use Rattle.readers.specs.Widest.{reach_is}
 use Rattle.terms.specs.Limits.{most_numbers}
