@@ -17,7 +17,7 @@ use Rattle.rows.specs.TreeRows.{leaf_row, shown, RowKept}
 module _ {M : Type 0} (coded : Coded M) (empty : M) (joined : M → M → M) (size : M → ℕ) (valid : M → Bool) (depth : ℕ) (nodes : List M) where
   pub kept_prop : IsProp (Kept empty joined size valid depth nodes)
   kept_prop p q =
-      let a : IsProp ((i : ℕ) → 0 < i → i < 2 ^ depth → get_or nodes i empty ≡ joined (get_or nodes (2 * i) empty) (get_or nodes (2 * i + 1) empty)) = search (props, coded) depth 8 in
+      let a : IsProp ((i : ℕ) → 0 < i → i < 2 ^ depth → get_or nodes i empty ≡ joined (get_or nodes (2 * i) empty) (get_or nodes (2 * i + 1) empty)) = λ f g i j z h. Coded-set coded _ _ (f j z h) (g j z h) i in
       let b : IsProp ((i : ℕ) → i < length nodes → valid (get_or nodes i empty) ≡ true) = hlevel props in
       let c : IsProp (sizes size (drop (2 ^ depth) nodes) ≤ limit) = hlevel props in
       λ i. record {

@@ -15,8 +15,8 @@ impl<T: Summary, const DEPTH: usize, const NODES: usize> Tree<T, DEPTH, NODES> {
     // The tree whose leaves are all the empty summary.
     pub fn new() -> Self
         requires { NODES ≡ 2 * 2 ^ DEPTH }
-        ensures kept { Kept empty joined size valid DEPTH result.nodes }
-        ensures leaves { drop (2 ^ DEPTH) result.nodes ≡ replicate (2 ^ DEPTH) empty }
+        ensures kept { Kept T.empty T.joined T.size T.valid DEPTH result.nodes }
+        ensures leaves { drop (2 ^ DEPTH) result.nodes ≡ replicate (2 ^ DEPTH) T.empty }
     {
         Tree {
             nodes: [T::none(); NODES],
@@ -27,9 +27,9 @@ impl<T: Summary, const DEPTH: usize, const NODES: usize> Tree<T, DEPTH, NODES> {
     pub fn from_leaves(leaves: &[T]) -> Self
         requires shape { NODES ≡ 2 * 2 ^ DEPTH }
         requires count { length leaves.now ≡ 2 ^ DEPTH }
-        requires fit { (i : ℕ) → i < length leaves.now → valid (slice_index_or leaves.now i empty) ≡ true }
-        requires few { sizes size leaves.now ≤ limit }
-        ensures kept { Kept empty joined size valid DEPTH result.nodes }
+        requires fit { (i : ℕ) → i < length leaves.now → T.valid (slice_index_or leaves.now i T.empty) ≡ true }
+        requires few { sizes T.size leaves.now ≤ limit }
+        ensures kept { Kept T.empty T.joined T.size T.valid DEPTH result.nodes }
         ensures leaves { drop (2 ^ DEPTH) result.nodes ≡ leaves.now }
     {
         let mut nodes = [T::none(); NODES];
@@ -47,11 +47,11 @@ impl<T: Summary, const DEPTH: usize, const NODES: usize> Tree<T, DEPTH, NODES> {
 
     // Writes a leaf, and joins anew what stands above it.
     pub fn put(&mut self, k: usize, v: T)
-        requires kept { Kept empty joined size valid DEPTH self.old.nodes }
+        requires kept { Kept T.empty T.joined T.size T.valid DEPTH self.old.nodes }
         requires place { k < 2 ^ DEPTH }
-        requires fit { valid v ≡ true }
-        requires few { sizes size (slice_set (drop (2 ^ DEPTH) self.old.nodes) k v) ≤ limit }
-        ensures kept { Kept empty joined size valid DEPTH self.new.nodes }
+        requires fit { T.valid v ≡ true }
+        requires few { sizes T.size (slice_set (drop (2 ^ DEPTH) self.old.nodes) k v) ≤ limit }
+        ensures kept { Kept T.empty T.joined T.size T.valid DEPTH self.new.nodes }
         ensures leaves { LeafSet DEPTH self.old.nodes k v self.new.nodes }
     {
         let mut node = NODES / 2 + k;
@@ -64,9 +64,9 @@ impl<T: Summary, const DEPTH: usize, const NODES: usize> Tree<T, DEPTH, NODES> {
 
     // All leaves joined, in the order of a ring whose oldest leaf stands at `head`.
     pub fn ring_total(&self, head: usize) -> T
-        requires kept { Kept empty joined size valid DEPTH self.now.nodes }
+        requires kept { Kept T.empty T.joined T.size T.valid DEPTH self.now.nodes }
         requires head { head < 2 ^ DEPTH }
-        ensures { result ≡ all_joined empty joined (ring head (drop (2 ^ DEPTH) self.now.nodes)) }
+        ensures { result ≡ all_joined T.empty T.joined (ring head (drop (2 ^ DEPTH) self.now.nodes)) }
     {
         let mut at = NODES / 2 + head;
         let mut older = self.nodes[at];

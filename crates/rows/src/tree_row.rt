@@ -80,7 +80,7 @@ impl Row for TreeRow {
         if let Some(refusal) = start_refused(count) {
             return Err(refusal);
         }
-        let mut leaves = [<Marks as crate::summary::Summary>::none(); WIDEST_ROW];
+        let mut leaves = [Marks::none(); WIDEST_ROW];
         for i in 0..count {
             leaves[i] = leaf(Mark::Plus);
         }

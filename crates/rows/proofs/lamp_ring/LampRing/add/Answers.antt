@@ -46,8 +46,8 @@ laid_now r gap step h x nodes e is w =
     next_leaves r.head h r.tree.nodes nodes (in_range gap step) (lamp_out r.head r.tree.nodes r.kept) (omega arith) r.inside
     (is ∙ ap (set (drop (2 ^ depth_of_lamp) r.tree.nodes) r.head) e) w
 
-pub invariant-of-self : goal.invariant-of-self
-invariant-of-self c =
+pub invariant_of-self : goal.invariant_of-self
+invariant_of-self c =
     let r = c.args.self.now in
     let k = lamp_out r.head r.tree.nodes r.kept in
     let x = c.leaf.result in
@@ -58,16 +58,17 @@ invariant-of-self c =
     let w : Wrapped (r.head + 1) lamp_length h = search rules in
     let s : x.size ≤ 1 = omega (arith, ap (λ (y : Lamp). y.size) a) in
     let below : h < lamp_length = search rules in
-    let small = small_set (drop (2 ^ depth_of_lamp) r.tree.nodes) r.head x s k.small in (
-      ∣ record {
+    let small = small_set (drop (2 ^ depth_of_lamp) r.tree.nodes) r.head x s k.small in
+    record {
+      kept = ∣ record {
         kept = c.put.ensures.kept;
         small = λ i. subst (λ (zs : List Lamp). (get_or zs i no_lamp).size ≤ 1) (sym p) (small i);
         laid =
             laid_again h ys (answered c.args.gap c.args.step (answers r))
             (laid_now r c.args.gap c.args.step h x ys a p w);
-      } ∣₁,
-      (below, tt),
-    )
+      } ∣₁;
+      inside = below;
+    }
 
 pub returns : goal.returns
 returns c =

@@ -23,11 +23,11 @@ lamp_tells head nodes k long =
 
 -- what a summary shows of its answers
 tells_shown : (xs : List (ℕ × ℕ)) (l : Lamp) → LampTells xs l → (b : Bool) → eqb l.size 0 ≡ b → LampShows xs (cond b None (Some (l.gap, l.step)))
-tells_shown xs l t true e = let n = t.size-is in let z = eqb-true l.size 0 e in nil_from_length xs (omega arith)
-tells_shown xs l t false e = let n = t.size-is in let z = eqb-false l.size 0 e in t.shows (omega arith)
+tells_shown xs l t true e = let n = t.size_is in let z = eqb-true l.size 0 e in nil_from_length xs (omega arith)
+tells_shown xs l t false e = let n = t.size_is in let z = eqb-false l.size 0 e in t.shows (omega arith)
 
-pub ring-total-requires : goal.ring-total-requires
-ring-total-requires c =
+pub ring_total-requires : goal.ring_total-requires
+ring_total-requires c =
     let k = lamp_out c.args.self.now.head c.args.self.now.tree.nodes c.args.self.now.kept in
     (lit< tt, (k.kept, omega arith))
 
@@ -36,8 +36,8 @@ returns c =
     let r = c.args.self.now in
     let k = lamp_out r.head r.tree.nodes r.kept in
     let xs : List (ℕ × ℕ) = answers r in
-    let all : Lamp = c.ring-total.result in
-    let e : all ≡ all_joined no_lamp lamp_joined (leaves_from r.head r.tree.nodes) = c.ring-total.ensures in
+    let all : Lamp = c.ring_total.result in
+    let e : all ≡ all_joined no_lamp lamp_joined (leaves_from r.head r.tree.nodes) = c.ring_total.ensures in
     let t : LampTells xs all = subst (LampTells xs) (sym e) (lamp_tells r.head r.tree.nodes k (omega arith)) in
     let s : c.shown.result ≡ lamp_shown all = c.shown.ensures in
     subst (LampShows xs) (sym s) (tells_shown xs all t (eqb all.size 0) refl)

@@ -1,12 +1,12 @@
-use Rattle.std.proofs.Common.{◌≡◌, ◌+◌, ◌≤◌, true, false, cond, ℤ, ◌+ℤ◌, sym, refl, ap, ◌∙◌, arith, w32, to_z, of_z, rules}
+use Rattle.std.proofs.Common.{◌≡◌, ◌+◌, ◌≤◌, true, false, cond, ◌+ℤ◌, sym, refl, ap, ◌∙◌, arith, w32, to_z, of_z, rules}
 use Rattle.std.proofs.lemmas.Int.{ints}
 use Rattle.rows.specs.Laws.{limit}
 use Rattle.rows.specs.Marks.{reaches}
 use Rattle.rows.specs.MarkLaws.{valid_says, same_marks}
 use Rattle.rows.proofs.marks.MarksSummary.join.Goals as goal
 
-pub overflow-add-result : goal.overflow-add-result
-overflow-add-result c =
+pub overflow_add-result : goal.overflow_add-result
+overflow_add-result c =
     let v = valid_says c.args.older c.requires.0 in
     let w = valid_says c.args.newer c.requires.1.0 in
     let h = c.requires.1.1 in

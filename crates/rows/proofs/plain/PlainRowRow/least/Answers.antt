@@ -18,8 +18,8 @@ held_as m v e =
 pub loop-n-init : goal.loop-n-init
 loop-n-init c = adding_none (map worth (take c.args.self.now.len c.args.self.now.items))
 
-pub add-older-sums-requires : goal.add-older-sums-requires
-add-older-sums-requires c =
+pub add_older-sums-requires : goal.add_older-sums-requires
+add_older-sums-requires c =
     let m = get_or c.args.self.now.items (c.args.self.now.len - 1 - c.loop-n.n) Plus in
     let v : c.value.result ≡ worth m = search rules in
     let e = held_as m c.value.result v in
@@ -47,7 +47,7 @@ loop-n-preserved c =
     (e ∙ mark_at xs len n (omega arith) (omega arith))
     (subst (λ x. negsuc 0 ≤ℤ x) (sym e) (worth_low m))
     (subst (λ x. x ≤ℤ pos 1) (sym e) (worth_high m))
-    c.add-older-sums.result c.add-older-sums.ensures
+    c.add_older-sums.result c.add_older-sums.ensures
 
 pub returns : goal.returns
 returns c =

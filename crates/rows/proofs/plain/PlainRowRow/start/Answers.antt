@@ -8,7 +8,7 @@ use Rattle.rows.proofs.plain.PlainRowRow.start.Goals as goal
 
 pub returns : goal.returns
 returns c =
-    let e : start_refusal c.args.count ≡ None = sym c.start-refused.ensures ∙ c.in-default.is in
+    let e : start_refusal c.args.count ≡ None = sym c.start_refused.ensures ∙ c.in_default.is in
     let s : take c.args.count (replicate widest_row Plus) ≡ replicate c.args.count Plus =
     take-replicate c.args.count widest_row Plus (start_allowed c.args.count e).1 in
     record { exact = (e, search rules) }

@@ -12,5 +12,5 @@ returns g c =
       leaves = rw c.none.ensures (drop-replicate (2 ^ g.row.DEPTH) g.row.NODES m.empty ∙ ap (λ k. replicate k m.empty) d);
     }
 
-pub invariant-of-result : goal.invariant-of-result
-invariant-of-result g c = (c.requires, (length-replicate g.row.NODES c.none.result, tt))
+pub invariant_of-result : goal.invariant_of-result
+invariant_of-result g c = record { shape = c.requires; long = length-replicate g.row.NODES c.none.result }

@@ -37,14 +37,16 @@ put-requires c =
       ),
     )
 
-pub invariant-of-self : goal.invariant-of-self
-invariant-of-self c =
+pub invariant_of-self : goal.invariant_of-self
+invariant_of-self c =
     let xs = c.args.self.now.tree.nodes in
     let k = taken_out c.args.self.now.len xs c.args.self.now.kept in
-    let w = written c.args.self.now.len xs k c.args.at c.args.m c.leaf.result c.leaf.ensures c.requires in (
-      ∣ row_kept c.args.self.now.len c.put.new.self.nodes (set (held xs) c.args.at c.args.m) c.put.ensures.kept (c.put.ensures.leaves ∙ w) (length-set (held xs) c.args.at c.args.m ∙ k.count) ∣₁,
-      (c.args.self.now.few, (c.args.self.now.inside, tt)),
-    )
+    let w = written c.args.self.now.len xs k c.args.at c.args.m c.leaf.result c.leaf.ensures c.requires in
+    record {
+      kept = ∣ row_kept c.args.self.now.len c.put.new.self.nodes (set (held xs) c.args.at c.args.m) c.put.ensures.kept (c.put.ensures.leaves ∙ w) (length-set (held xs) c.args.at c.args.m ∙ k.count) ∣₁;
+      few = c.args.self.now.few;
+      inside = c.args.self.now.inside;
+    }
 
 pub returns : goal.returns
 returns c =

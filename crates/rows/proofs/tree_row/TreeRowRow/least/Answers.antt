@@ -12,8 +12,8 @@ use Rattle.rows.proofs.Tells.{Tells}
 use Rattle.rows.proofs.MarkRows.{tells_ring}
 use Rattle.rows.proofs.tree_row.TreeRowRow.least.Goals as goal
 
-pub ring-total-requires : goal.ring-total-requires
-ring-total-requires c =
+pub ring_total-requires : goal.ring_total-requires
+ring_total-requires c =
     let k = taken_out c.args.self.now.len c.args.self.now.tree.nodes c.args.self.now.kept in
     (lit< tt, (k.kept, omega arith))
 
@@ -24,8 +24,8 @@ returns c =
     let k = taken_out c.args.self.now.len xs c.args.self.now.kept in
     let ms : List Mark = held xs in
     let n = k.count in
-    let all : Marks = c.ring-total.result in
-    let e : all ≡ all_joined no_marks marks_joined (ring h (leaf_row (2 ^ depth_of_row) ms)) = c.ring-total.ensures ∙ ap (λ ys. all_joined no_marks marks_joined (ring h ys)) k.leaves in
+    let all : Marks = c.ring_total.result in
+    let e : all ≡ all_joined no_marks marks_joined (ring h (leaf_row (2 ^ depth_of_row) ms)) = c.ring_total.ensures ∙ ap (λ ys. all_joined no_marks marks_joined (ring h ys)) k.leaves in
     let t : Tells (map worth (ring h ms)) all = subst (Tells (map worth (ring h ms))) (sym e) (tells_ring (2 ^ depth_of_row) h ms (omega arith)) in
     let p : c.answer.result.0 ≡ all.least = c.answer.ensures.0 in
     let q : c.answer.result.1 ≡ all.span = c.answer.ensures.1 in

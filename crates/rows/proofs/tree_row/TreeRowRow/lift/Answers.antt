@@ -15,7 +15,7 @@ returns-in-Some c =
     let k = taken_out r.len r.tree.nodes r.kept in
     let l : length (ring r.head (held r.tree.nodes)) ≡ r.len = length_ring r.head (held r.tree.nodes) ∙ k.count in
     record {
-      exact = (subst (λ n. lift_refusal n c.args.age ≡ Some c.in-Some.refusal) (sym l) (sym c.lift-refused.ensures ∙ c.in-Some.is), refl);
+      exact = (subst (λ n. lift_refusal n c.args.age ≡ Some c.in-Some.refusal) (sym l) (sym c.lift_refused.ensures ∙ c.in-Some.is), refl);
     }
 
 pub returns : goal.returns
@@ -25,7 +25,7 @@ returns c =
     let k = taken_out r.len r.tree.nodes r.kept in
     let n : length ms ≡ r.len = k.count in
     let l : length (ring r.head ms) ≡ r.len = length_ring r.head ms ∙ n in
-    let e : lift_refusal r.len c.args.age ≡ None = sym c.lift-refused.ensures ∙ c.in-default.is in
+    let e : lift_refusal r.len c.args.age ≡ None = sym c.lift_refused.ensures ∙ c.in_default.is in
     let h = lift_allowed r.len c.args.age e in
     let b : ℕ = r.len - 1 - c.args.age in
     let w : Wrapped (r.head + b) (length ms) c.place-at.result = search rules in

@@ -18,16 +18,16 @@ pub loop-i-preserved : goal.loop-i-preserved
 loop-i-preserved c =
     let f : c.leaf.result ≡ leaf_of Plus = search rules in
     let i = c.loop-i.invariant in
-    let e : start_refusal c.args.count ≡ None = sym c.start-refused.ensures ∙ c.in-default.is in
+    let e : start_refusal c.args.count ≡ None = sym c.start_refused.ensures ∙ c.in_default.is in
     let a = start_allowed c.args.count e in (
       length-set c.loop-i.leaves c.loop-i.i c.leaf.result ∙ i.0,
       started_more widest_row c.loop-i.i c.loop-i.leaves c.leaf.result (omega arith) f i.1,
     )
 
-pub from-leaves-requires : goal.from-leaves-requires
-from-leaves-requires c =
+pub from_leaves-requires : goal.from_leaves-requires
+from_leaves-requires c =
     let i = c.loop-i.invariant in
-    let e : start_refusal c.args.count ≡ None = sym c.start-refused.ensures ∙ c.in-default.is in
+    let e : start_refusal c.args.count ≡ None = sym c.start_refused.ensures ∙ c.in_default.is in
     let a = start_allowed c.args.count e in (
       lit< tt,
       (
@@ -42,24 +42,26 @@ from-leaves-requires c =
       ),
     )
 
-pub invariant-of-self : goal.invariant-of-self
-invariant-of-self c =
+pub invariant_of-self : goal.invariant_of-self
+invariant_of-self c =
     let n : c.loop-i.i ≡ c.args.count = omega arith in
-    let e : start_refusal c.args.count ≡ None = sym c.start-refused.ensures ∙ c.in-default.is in
-    let a = start_allowed c.args.count e in (
-      ∣ row_kept c.args.count c.from-leaves.result.nodes (replicate c.loop-i.i Plus) c.from-leaves.ensures.kept (c.from-leaves.ensures.leaves ∙ c.loop-i.invariant.1) (length-replicate c.loop-i.i Plus ∙ n) ∣₁,
-      (a.1, (omega arith, tt)),
-    )
+    let e : start_refusal c.args.count ≡ None = sym c.start_refused.ensures ∙ c.in_default.is in
+    let a = start_allowed c.args.count e in
+    record {
+      kept = ∣ row_kept c.args.count c.from_leaves.result.nodes (replicate c.loop-i.i Plus) c.from_leaves.ensures.kept (c.from_leaves.ensures.leaves ∙ c.loop-i.invariant.1) (length-replicate c.loop-i.i Plus ∙ n) ∣₁;
+      few = a.1;
+      inside = omega arith;
+    }
 
 pub returns : goal.returns
 returns c =
     let n : c.loop-i.i ≡ c.args.count = omega arith in
-    let e : start_refusal c.args.count ≡ None = sym c.start-refused.ensures ∙ c.in-default.is in
-    let l = c.from-leaves.ensures.leaves ∙ c.loop-i.invariant.1 in
+    let e : start_refusal c.args.count ≡ None = sym c.start_refused.ensures ∙ c.in_default.is in
+    let l = c.from_leaves.ensures.leaves ∙ c.loop-i.invariant.1 in
     record {
       exact = (
         e,
-        append-nil (shown (drop (2 ^ depth_of_row) c.from-leaves.result.nodes))
+        append-nil (shown (drop (2 ^ depth_of_row) c.from_leaves.result.nodes))
             ∙ ap shown l ∙ shown_row widest_row (replicate c.loop-i.i Plus) ∙ ap (λ k. replicate k Plus) n,
       );
     }
