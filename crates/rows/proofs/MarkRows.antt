@@ -12,7 +12,7 @@ use Rattle.rows.specs.Marks.{no_marks, marks_joined, marks_valid}
 use Rattle.rows.specs.Rows.{worth, pushed}
 use Rattle.rows.specs.TreeRows.{leaf_of, leaf_row, shown, RowKept}
 use Rattle.rows.proofs.RingMoves.{length_ring, ring_next}
-use Rattle.rows.proofs.Trees.{get_d_none, sizes_none}
+use Rattle.rows.proofs.Trees.{get_or_none, sizes_none}
 use Rattle.rows.proofs.Tells.{Tells, tells_join}
 
 -- Rings
@@ -64,7 +64,7 @@ pub row_valid : (n : ℕ) (ms : List Mark) (i : ℕ) → marks_valid (get_or (le
 row_valid n ms i = leaves_valid ms (n - length ms) i
   where
     leaves_valid : (ms : List Mark) (k i : ℕ) → marks_valid (get_or (map leaf_of ms ++ replicate k no_marks) i no_marks) ≡ true
-    leaves_valid [] k i = ap marks_valid (get_d_none no_marks k i)
+    leaves_valid [] k i = ap marks_valid (get_or_none no_marks k i)
     leaves_valid (m ∷ ms) k zero = leaf_valid m
     leaves_valid (m ∷ ms) k (suc i) = leaves_valid ms k i
 

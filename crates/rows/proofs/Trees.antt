@@ -6,10 +6,10 @@ use Rattle.rows.specs.Laws.{Laws, Kept, limit, sizes}
 use Rattle.rows.proofs.Runs.{tall}
 use Rattle.rows.proofs.Totals.{tall_sizes}
 
-pub get_d_none : {M : Type 0} (x : M) (n i : ℕ) → get_or (replicate n x) i x ≡ x
-get_d_none x zero i = refl
-get_d_none x (suc n) zero = refl
-get_d_none x (suc n) (suc i) = get_d_none x n i
+pub get_or_none : {M : Type 0} (x : M) (n i : ℕ) → get_or (replicate n x) i x ≡ x
+get_or_none x zero i = refl
+get_or_none x (suc n) zero = refl
+get_or_none x (suc n) (suc i) = get_or_none x n i
 
 pub sizes_none : {M : Type 0} (size : M → ℕ) (x : M) (n : ℕ) → size x ≡ 0 → sizes size (replicate n x) ≡ 0
 sizes_none size x zero e = refl
@@ -18,8 +18,8 @@ sizes_none size x (suc n) e = omega (arith, sizes_none size x n e)
 module _ {M : Type 0} {empty : M} {joined : M → M → M} {size : M → ℕ} {valid : M → Bool} (laws : Laws empty joined size valid) where
   pub kept_none : (depth nodes : ℕ) → Kept empty joined size valid depth (replicate nodes empty)
   kept_none depth nodes = record {
-    parents = λ i p q. get_d_none empty nodes i ∙ sym (laws.left empty laws.valid_empty) ∙ ap (λ x. joined x empty) (sym (get_d_none empty nodes (2 * i))) ∙ ap (joined (get_or (replicate nodes empty) (2 * i) empty)) (sym (get_d_none empty nodes (2 * i + 1)));
-    valids = λ i h. ap valid (get_d_none empty nodes i) ∙ laws.valid_empty;
+    parents = λ i p q. get_or_none empty nodes i ∙ sym (laws.left empty laws.valid_empty) ∙ ap (λ x. joined x empty) (sym (get_or_none empty nodes (2 * i))) ∙ ap (joined (get_or (replicate nodes empty) (2 * i) empty)) (sym (get_or_none empty nodes (2 * i + 1)));
+    valids = λ i h. ap valid (get_or_none empty nodes i) ∙ laws.valid_empty;
     few = subst (λ xs. sizes size xs ≤ limit) (sym (drop-replicate (2 ^ depth) nodes empty)) (omega (arith, sizes_none size empty (nodes - 2 ^ depth) laws.size_empty));
   }
 
