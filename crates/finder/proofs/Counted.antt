@@ -1,5 +1,5 @@
 -- The counts of a phrase's codes.
-use Rattle.std.proofs.Common.{◌≡◌, ℕ, zero, suc, ◌+◌, ◌-◌, ◌<◌, ◌≤◌, Bool, true, false, cond, List, [], ◌∷◌, length, refl, ap, arith}
+use Rattle.std.proofs.Common.{◌≡◌, ℕ, zero, suc, ◌+◌, ◌<◌, ◌≤◌, Bool, true, false, cond, List, [], ◌∷◌, length, refl, ap, arith}
 use Rattle.terms.specs.Figures.{count, figures, same, different, without}
 use Rattle.terms.specs.Codes.{count_of, count_at}
 use Rattle.terms.proofs.Runs.{length_figures}

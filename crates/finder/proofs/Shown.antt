@@ -1,5 +1,5 @@
 -- Lamp and view.
-use Rattle.std.proofs.Common.{◌≡◌, ℕ, ◌-◌, List, [], ◌∷◌, map, length, take, sym, refl, ap, ◌∙◌, arith}
+use Rattle.std.proofs.Common.{◌≡◌, ℕ, ◌-◌, List, [], ◌∷◌, map, length, sym, refl, ap, ◌∙◌, arith}
 use Rattle.std.proofs.lemmas.List.{length-map, length-drop}
 use Rattle.terms.specs.Limits.{lamp_length}
 use Rattle.finder.specs.History.{History, Played, none, more, LampList, gap_and_step}

@@ -3,15 +3,12 @@ ghost use Rattle.terms.specs.Limits.{longest_phrase, longest_figure, longest_tak
 ghost use Rattle.finder.specs.Inside.{within};
 
 use crate::recent::Recent;
-use readers::reader::Reader;
 use rows::lamp_ring::LampRing;
-use rows::row::Row;
-use steps::step::Step;
 use terms::answer::BestStretch;
 
 // One reader and one row of any make, for one kind of step. It does not keep the take, only how many steps it has.
 #[derive(Drop)]
-pub struct Slot<S: Step, R: Reader, M: Row> {
+pub struct Slot<S, R, M> {
     pub(crate) reader: R,
     pub(crate) row: M,
     pub(crate) recent: Recent,

@@ -12,13 +12,13 @@ use terms::refusal::Refusal;
 
 // A slot whose take is rolling: it is loaded, takes steps and is cleared.
 #[derive(Drop)]
-pub struct Rolling<S: Step, R: Reader, M: Row> {
+pub struct Rolling<S, R, M> {
     pub(crate) slot: Slot<S, R, M>,
 }
 
 // A slot whose take is closed: it tells the best stretch, is viewed and cut.
 #[derive(Drop)]
-pub struct Closed<S: Step, R: Reader, M: Row> {
+pub struct Closed<S, R, M> {
     pub(crate) slot: Slot<S, R, M>,
 }
 

@@ -31,8 +31,8 @@ returns g c =
     ap (λ first. record { steps = replicate longest_phrase 0; first = first; next = replicate longest_phrase 0 })
     (starts_all f c.loop-code.first c.loop-code.invariant.0 (λ n h. c.loop-code.invariant.1 n (omega (arith, c.loop-code-test.false))))
 
-pub overflow-cast-first : goal.overflow-cast-first
-overflow-cast-first g c =
+pub overflow_cast-first : goal.overflow_cast-first
+overflow_cast-first g c =
     let f = counted (g.R.Reader.memory c.args.reader.now) in
     let i = c.loop-code.code in
     let b = before_to f i (omega arith) c.requires in
@@ -40,8 +40,8 @@ overflow-cast-first g c =
     let e = c.count.ensures in
     omega arith
 
-pub overflow-add-first : goal.overflow-add-first
-overflow-add-first g c =
+pub overflow_add-first : goal.overflow_add-first
+overflow_add-first g c =
     let f = counted (g.R.Reader.memory c.args.reader.now) in
     let i = c.loop-code.code in
     let b = before_to f i (omega arith) c.requires in

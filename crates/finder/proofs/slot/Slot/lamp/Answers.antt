@@ -7,7 +7,7 @@ pub returns : goal.returns
 returns g c = record {
   exact = λ h t.
       let ls = answers c.args.self.now.lamp in
-      cases_map c.lamp-shows.result c.lamp-shows.ensures
+      cases_map c.lamp_shows.result c.lamp_shows.ensures
       (λ e. list_none g.S.Step.sound h ls t.lamp e)
       (λ l k. record { list = ls; listed = t.lamp; shows = k });
 }

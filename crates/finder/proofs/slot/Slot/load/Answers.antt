@@ -12,18 +12,18 @@ use Rattle.finder.proofs.Recalling.{rings_start}
 use Rattle.finder.proofs.Starts.{represents_begun, back, fits}
 use Rattle.finder.proofs.slot.Slot.load.Goals as goal
 
-pub returns-then-m-gt-LONGEST-PHRASE : goal.returns-then-m-gt-LONGEST-PHRASE
-returns-then-m-gt-LONGEST-PHRASE g c = record { exact = simp length-map (grind (arith, nat_tests)); kept = refl }
+pub returns-then-m-gt-LONGEST_PHRASE : goal.returns-then-m-gt-LONGEST_PHRASE
+returns-then-m-gt-LONGEST_PHRASE g c = record { exact = simp length-map (grind (arith, nat_tests)); kept = refl }
 
-pub returns-in-err-load : goal.returns-in-err-load
-returns-in-err-load g c =
+pub returns-in_err-load : goal.returns-in_err-load
+returns-in_err-load g c =
     let sound = g.S.Step.sound in
     let reaches = g.R.Reader.reaches in
     let xs = c.args.phrase.now in
-    let ps : take (length xs - 0) c.sounds-of-sounds.result ≡ map sound xs = simp sub-zero c.sounds-of-sounds.ensures in
-    let p = err_from_is_err_and c.from-residual.result c.from-residual.ensures.1 in
-    let e = c.in-err-load.ensures.exact in
-    let ref = sym (ap₂ (λ n zs. load_refusal (reaches n) zs c.args.q n) c.sound-count.ensures ps) ∙ e.0 in
+    let ps : take (length xs - 0) c.sounds_of-sounds.result ≡ map sound xs = simp sub-zero c.sounds_of-sounds.ensures in
+    let p = err_from_is_err_and c.from_residual.result c.from_residual.ensures.1 in
+    let e = c.in_err-load.ensures.exact in
+    let ref = sym (ap₂ (λ n zs. load_refusal (reaches n) zs c.args.q n) c.sound_count.ensures ps) ∙ e.0 in
     rw (p.1, p.2) record { exact = ref; kept = back c.args.self.now _ _ _ _ _ _ _ _ e.1 }
 
 pub returns : goal.returns
@@ -31,9 +31,9 @@ returns g c =
     let sound = g.S.Step.sound in
     let reaches = g.R.Reader.reaches in
     let xs = c.args.phrase.now in
-    let ps : take (length xs - 0) c.sounds-of-sounds.result ≡ map sound xs = simp sub-zero c.sounds-of-sounds.ensures in
-    let e = c.in-ok-load.ensures.exact in
-    let ref = sym (ap₂ (λ n zs. load_refusal (reaches n) zs c.args.q n) c.sound-count.ensures ps) ∙ e.0 in
+    let ps : take (length xs - 0) c.sounds_of-sounds.result ≡ map sound xs = simp sub-zero c.sounds_of-sounds.ensures in
+    let e = c.in_ok-load.ensures.exact in
+    let ref = sym (ap₂ (λ n zs. load_refusal (reaches n) zs c.args.q n) c.sound_count.ensures ps) ∙ e.0 in
     let ok = fits (reaches g.S.Step.sounds) (map sound xs) c.args.q g.S.Step.sounds ref in
     let l = length-map xs sound in
     let holds = e.1 ∙ ap (λ zs. held zs c.args.q []) ps in
@@ -42,19 +42,19 @@ returns g c =
         ref,
         represents_begun sound g.R.Reader.memory g.M.Row.marks _ c.begin.new.self xs c.args.q c.begin.ensures refl refl
             (omega (arith, ok.0)) ok.2 (omega (arith, ok.3)) (omega (arith, ok.1)) holds
-            (c.for-codes-self.ensures ∙ ap (λ m. laid (counted m)) holds ∙ sym (rings_start c.args.q (map sound xs))),
+            (c.for_codes-self.ensures ∙ ap (λ m. laid (counted m)) holds ∙ sym (rings_start c.args.q (map sound xs))),
       );
       kept = tt;
     }
 
-pub for-codes-self-requires : goal.for-codes-self-requires
-for-codes-self-requires g c =
+pub for_codes-self-requires : goal.for_codes-self-requires
+for_codes-self-requires g c =
     let sound = g.S.Step.sound in
     let reaches = g.R.Reader.reaches in
     let xs = c.args.phrase.now in
-    let ps : take (length xs - 0) c.sounds-of-sounds.result ≡ map sound xs = simp sub-zero c.sounds-of-sounds.ensures in
-    let e = c.in-ok-load.ensures.exact in
-    let ref = sym (ap₂ (λ n zs. load_refusal (reaches n) zs c.args.q n) c.sound-count.ensures ps) ∙ e.0 in
+    let ps : take (length xs - 0) c.sounds_of-sounds.result ≡ map sound xs = simp sub-zero c.sounds_of-sounds.ensures in
+    let e = c.in_ok-load.ensures.exact in
+    let ref = sym (ap₂ (λ n zs. load_refusal (reaches n) zs c.args.q n) c.sound_count.ensures ps) ∙ e.0 in
     let ok = fits (reaches g.S.Step.sounds) (map sound xs) c.args.q g.S.Step.sounds ref in
     let holds = e.1 ∙ ap (λ zs. held zs c.args.q []) ps in
     subst (λ m. before (counted m) longest_phrase ≤ longest_phrase) (sym holds) (before_few c.args.q (map sound xs) longest_phrase ok.2 ok.1)

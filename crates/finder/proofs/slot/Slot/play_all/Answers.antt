@@ -20,21 +20,21 @@ loop-i-preserved g c =
     let marks = g.M.Row.marks in
     let xs = c.args.steps.now in
     let i = c.loop-i.i in
-    let x = c.play-at.ensures.x in
-    let a = c.play-at.ensures.answer in
-    let told = c.play-at.ensures.told in
+    let x = c.play_at.ensures.x in
+    let a = c.play_at.ensures.answer in
+    let told = c.play_at.ensures.told in
     let longer = told.longer in
-    let more = take_more xs i x c.loop-i-test.true ∙ ap (λ y. take i xs ++ (y ∷ [])) (sym c.play-at.ensures.is) in
+    let more = take_more xs i x c.loop-i-test.true ∙ ap (λ y. take i xs ++ (y ∷ [])) (sym c.play_at.ensures.is) in
     let within : i < length c.loop-i.records = omega arith in
-    let records = ap (take (i + 1)) c.play-at.ensures.written ∙ take_more_set c.loop-i.records i a within in (
+    let records = ap (take (i + 1)) c.play_at.ensures.written ∙ take_more_set c.loop-i.records i a within in (
       omega arith,
       told.figure ∙ c.loop-i.invariant.1,
       λ h t some.
           let before = c.loop-i.invariant.2 h t some in
           let played = told.exact (ran h (take i xs)) before.0 some in
           let now-at = ran_more h (take i xs) x ∙ ap (ran h) (sym more) in (
-            subst (Represents sound memory marks c.play-at.new.self) now-at played.1,
-            subst (λ zs. Played sound h zs (take (i + 1) c.play-at.new.records)) (sym more)
+            subst (Represents sound memory marks c.play_at.new.self) now-at played.1,
+            subst (λ zs. Played sound h zs (take (i + 1) c.play_at.new.records)) (sym more)
                 (subst (Played sound h (take i xs ++ (x ∷ []))) (sym records) (played_push sound x a before.1 played.0)),
           ),
     )
