@@ -1,23 +1,21 @@
 -- One call after another: what holds after some of them, and at the end.
-use Rattle.std.proofs.Common.{◌≡◌, ℕ, ◌+◌, ◌-◌, ◌<◌, ◌≤◌, Bool, true, false, cond, ◌⊎◌, List, [], ◌∷◌, ◌++◌, length, get_or, take, drop, set, sym, refl, ap, ◌∙◌, subst, inl, inr, ⊎_elim, append_assoc, arith}
+use Rattle.std.proofs.Common.{◌≡◌, ℕ, ◌+◌, ◌-◌, ◌<◌, ◌≤◌, ◌⊎◌, List, ◌++◌, length, get_or, take, drop, set, sym, refl, ap, ◌∙◌, subst, inl, inr, ⊎_elim, append_assoc, arith}
 use borrow.Rule.Slice.PartMut.{put_mid}
 use Rattle.std.proofs.lemmas.List.{take_at, drop_at, take_more, take_more_set, take-set-le, take-append-drop, drop-set-lt, drop-drop, drop-append-le, length-append, length-take-le, length-set, length-drop}
 use Rattle.std.proofs.lemmas.Bool.{cases_lt}
 use Rattle.terms.specs.declared.answer.Answer.{Answer}
 use Rattle.readers.specs.Memory.{Memory}
 use Rattle.rows.specs.declared.mark.Mark.{Mark}
-use Rattle.finder.specs.History.{History, unloaded}
+use Rattle.finder.specs.History.{unloaded}
 use Rattle.life.specs.Readings.{given, used, records_used_lem}
-use Rattle.life.specs.Outcomes.{Stage, rolling, Outcome, Life, new, more}
-use Rattle.life.specs.Laws.{Law}
-use Rattle.life.specs.Promises.{stage_of, Stands, MakeTold, PerformTold}
+use Rattle.life.specs.Outcomes.{Stage, rolling, Life, new, more}
+use Rattle.life.specs.Promises.{Stands, MakeTold, PerformTold}
 use Rattle.life.specs.declared.calls.Call.{Call}
 use Rattle.life.specs.declared.calls.Call.TheVariants.{Clear}
 use Rattle.life.specs.declared.calls.Event.{Event}
 use Rattle.life.specs.declared.calls.Event.TheVariants.{Loaded, Answered, Ran, Cleared, Closed, Reopened}
 use Rattle.life.specs.declared.calls.Event.TheVariants.{Refused, OutOfPlace}
 use Rattle.life.specs.declared.calls.Take.{Take}
-use Rattle.life.specs.declared.calls.Performed.{Performed}
 use Rattle.life.proofs.Growing.{LawOf, grown}
 use Rattle.life.proofs.Obeying.{outcome_records, life_even, life_records, life_law}
 use Rattle.life.proofs.Standing.{life_stage}

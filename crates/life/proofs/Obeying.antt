@@ -1,6 +1,6 @@
 -- Every life keeps the law.
-use Rattle.std.proofs.Common.{◌≡◌, ℕ, zero, suc, ◌+◌, ◌<◌, ◌≤◌, Bool, true, false, cond, not, eqb, ◌⊎◌, List, [], ◌∷◌, ◌++◌, map, length, get_or, take, drop, Some, None, Option, sym, refl, ap, ◌∙◌, subst, inl, inr, ⊎_elim, append_assoc, arith}
-use Rattle.std.proofs.lemmas.List.{take_at, take_all, drop_at, get_or_push, length-append, length_push, length-take-le}
+use Rattle.std.proofs.Common.{◌≡◌, ℕ, zero, suc, ◌+◌, ◌<◌, ◌≤◌, Bool, true, false, cond, eqb, List, [], ◌∷◌, ◌++◌, map, length, get_or, take, drop, Some, None, Option, sym, refl, ap, ◌∙◌, subst, ⊎_elim, append_assoc, arith}
+use Rattle.std.proofs.lemmas.List.{take_at, take_all, drop_at, get_or_push, length-append, length_push}
 use Rattle.std.proofs.lemmas.Bool.{true≢false, eqb-true, cases_lt}
 use Rattle.std.proofs.lemmas.Bool.Decides.{nat_tests}
 use Rattle.terms.specs.Refusals.{run_refusal}
@@ -15,7 +15,7 @@ use Rattle.life.specs.Outcomes.{step_refused, run_accepted, run_refused_lem, cle
 use Rattle.life.specs.Outcomes.{not_closed, not_rolling, Life, new, more}
 use Rattle.life.specs.Laws.{blank, refused_by, Tells, LawAt, Law}
 use Rattle.life.specs.declared.calls.Call.{Call}
-use Rattle.life.specs.declared.calls.Call.TheVariants.{Load, Step, Run, Clear, Close, Reopen}
+use Rattle.life.specs.declared.calls.Call.TheVariants.{Clear}
 use Rattle.life.specs.declared.calls.Event.{Event}
 use Rattle.life.specs.declared.calls.Event.TheVariants as told
 use Rattle.life.proofs.Pushing.{call_by_call_lem, history_push, closed_push, used_push}

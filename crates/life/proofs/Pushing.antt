@@ -1,8 +1,8 @@
 -- What is read off the calls, with one call more.
-use Rattle.std.proofs.Common.{◌≡◌, ℕ, ◌+◌, Bool, true, false, cond, ◌||◌, List, [], ◌∷◌, ◌++◌, length, Some, None, Option, sym, refl, ap, ◌∙◌, arith}
+use Rattle.std.proofs.Common.{◌≡◌, ◌+◌, Bool, true, false, cond, ◌||◌, List, [], ◌∷◌, ◌++◌, length, Option, sym, refl, ap, ◌∙◌, arith}
 use Rattle.std.specs.List.{flat_map}
 use Rattle.std.proofs.lemmas.List.{flat_map_more, append-nil}
-use Rattle.std.proofs.lemmas.Bool.{or_right, or_from}
+use Rattle.std.proofs.lemmas.Bool.{or_right}
 use Rattle.finder.specs.History.{unloaded}
 use Rattle.life.specs.Readings.{accepted, some, since_last, or_else, last_found, accepted_of, begins_take, steps_of}
 use Rattle.life.specs.Readings.{load_of, closing_of, history_by, closed_by, history_of, closed_of, given, used}

@@ -1,5 +1,5 @@
 -- The law of a whole life, in the words of the calls and their events.
-use Rattle.std.specs.Prelude.{◌≡◌, ℕ, ◌+◌, ◌<◌, Bool, true, false, List, [], ◌∷◌, map, length, take, drop, Some, None, Option, slice_index_or}
+use Rattle.std.specs.Prelude.{◌≡◌, ℕ, ◌+◌, ◌<◌, Bool, true, false, List, [], map, length, take, drop, Some, None, Option, slice_index_or}
 use Rattle.terms.specs.Refusals.{load_refusal, step_refusal, run_refusal}
 use Rattle.terms.specs.declared.answer.Answer.{Answer}
 use Rattle.terms.specs.declared.answer.BestStretch.{BestStretch}

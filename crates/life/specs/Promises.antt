@@ -1,5 +1,5 @@
 -- What is promised of a list of calls that is performed.
-use Rattle.std.specs.Prelude.{◌≡◌, ℕ, ◌+◌, ◌<◌, ◌≤◌, Bool, true, false, cond, ◌⊎◌, List, [], ◌∷◌, ◌++◌, length, take, drop, slice_index_or}
+use Rattle.std.specs.Prelude.{◌≡◌, ℕ, ◌+◌, ◌<◌, ◌≤◌, Bool, true, false, cond, ◌⊎◌, List, ◌++◌, length, take, drop, slice_index_or}
 use Rattle.terms.specs.declared.answer.Answer.{Answer}
 use Rattle.readers.specs.Memory.{Memory}
 use Rattle.rows.specs.declared.mark.Mark.{Mark}

@@ -1,4 +1,4 @@
-use Rattle.std.proofs.Common.{◌≡◌, ℕ, Bool, true, false, sym, refl, ◌∙◌, subst}
+use Rattle.std.proofs.Common.{◌≡◌, Bool, true, false, refl, ◌∙◌, subst}
 use Rattle.finder.specs.History.{History}
 use Rattle.finder.specs.Slots.{Represents}
 use Rattle.life.proofs.Linking.{staged, chain_life, link_kept}

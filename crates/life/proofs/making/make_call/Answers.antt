@@ -11,6 +11,6 @@ returns-in-Closed g c =
     let n = g.S.Step.sounds in
     let reach = g.R.Reader.reaches n in
     let rs = c.args.records.now in
-    subst (λ t. MakeTold sound memory marks reach n t c.args.call.now rs c.on-closed.result rs)
+    subst (λ t. MakeTold sound memory marks reach n t c.args.call.now rs c.on_closed.result rs)
     (sym c.in-Closed.is)
-    (untouched sound memory marks reach n rs c.on-closed.ensures)
+    (untouched sound memory marks reach n rs c.on_closed.ensures)

@@ -1,4 +1,4 @@
-use Rattle.std.proofs.Common.{◌≡◌, Bool, true, false, [], refl}
+use Rattle.std.proofs.Common.{◌≡◌, true, false, [], refl}
 use Rattle.life.specs.Outcomes.{belongs}
 use Rattle.life.specs.declared.calls.Call.{Call}
 use Rattle.life.specs.declared.calls.Call.TheVariants.{Load, Step, Run, Clear, Close, Reopen}
@@ -18,10 +18,10 @@ pub returns-in-Reopen : goal.returns-in-Reopen
 returns-in-Reopen g c =
     reopen_told g.S.Step.sound g.R.Reader.memory g.M.Row.marks
     (g.R.Reader.reaches g.S.Step.sounds) g.S.Step.sounds
-    c.args.closed c.reopen-take.result c.in-Reopen.is c.reopen-take.ensures
+    c.args.closed c.reopen_take.result c.in-Reopen.is c.reopen_take.ensures
 
-pub returns-in-default : goal.returns-in-default
-returns-in-default g c =
+pub returns-in_default : goal.returns-in_default
+returns-in_default g c =
     out_told g.S.Step.sound g.R.Reader.memory g.M.Row.marks
     (g.R.Reader.reaches g.S.Step.sounds) g.S.Step.sounds
-    (is.Closed c.args.closed) c.args.call.now [] (not_reopen c.args.call.now c.in-default.not-Reopen)
+    (is.Closed c.args.closed) c.args.call.now [] (not_reopen c.args.call.now c.in_default.not-Reopen)

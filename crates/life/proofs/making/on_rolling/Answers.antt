@@ -12,14 +12,14 @@ returns-in-Load g c =
     made_told g.S.Step.sound g.R.Reader.memory g.M.Row.marks
     (g.R.Reader.reaches g.S.Step.sounds) g.S.Step.sounds
     (is.Rolling c.args.rolling) (is.Rolling c.load.new.self) c.in-Load.is
-    c.load-event-event.ensures (load c.load.ensures) refl
+    c.load_event-event.ensures (load c.load.ensures) refl
 
 pub returns-in-Step : goal.returns-in-Step
 returns-in-Step g c =
     made_told g.S.Step.sound g.R.Reader.memory g.M.Row.marks
     (g.R.Reader.reaches g.S.Step.sounds) g.S.Step.sounds
     (is.Rolling c.args.rolling) (is.Rolling c.step.new.self) c.in-Step.is
-    c.step-event-event.ensures (step c.step.ensures) refl
+    c.step_event-event.ensures (step c.step.ensures) refl
 
 pub returns-in-Run : goal.returns-in-Run
 returns-in-Run g c =
@@ -32,7 +32,7 @@ returns-in-Run g c =
     made_told g.S.Step.sound g.R.Reader.memory g.M.Row.marks
     (g.R.Reader.reaches g.S.Step.sounds) g.S.Step.sounds
     (is.Rolling c.args.rolling) (is.Rolling c.run.new.self) same-call
-    c.run-event-event.ensures (run c.run.ensures)
+    c.run_event-event.ensures (run c.run.ensures)
     (run_after c.run.result before after (c.run.new.self.slot ≡ c.args.rolling.slot)
     c.run.ensures.kept long)
 
@@ -47,8 +47,8 @@ pub returns-in-Close : goal.returns-in-Close
 returns-in-Close g c =
     made_told g.S.Step.sound g.R.Reader.memory g.M.Row.marks
     (g.R.Reader.reaches g.S.Step.sounds) g.S.Step.sounds
-    (is.Rolling c.args.rolling) (is.Closed c.close-take-closed.result.0) c.in-Close.is refl
-    (close c.close-take-closed.ensures.0 c.close-take-closed.ensures.1) refl
+    (is.Rolling c.args.rolling) (is.Closed c.close_take-closed.result.0) c.in-Close.is refl
+    (close c.close_take-closed.ensures.0 c.close_take-closed.ensures.1) refl
 
 pub returns-in-Reopen : goal.returns-in-Reopen
 returns-in-Reopen g c =
