@@ -51,61 +51,61 @@ accepted bs small p s ek ef isp ist =
 
 -- the reader on its way: each stage passed, and the places as the reader has them
 module _ (bs : List ℕ) where
-  abbrev K : Kind
-  K = kind_of bs
+  abbrev sheet_kind : Kind
+  sheet_kind = kind_of bs
 
-  abbrev M : ℕ
-  M = phrase_count bs
+  abbrev phrase_steps : ℕ
+  phrase_steps = phrase_count bs
 
   abbrev end : ℕ
-  end = take_place K bs + take_steps K bs * step_size K
+  end = take_place sheet_kind bs + take_steps sheet_kind bs * step_size sheet_kind
 
   abbrev past_take : List Check
   past_take = end_checks bs end
 
   abbrev past_count : List Check
-  past_count = section_checks K bs (take_place K bs) (take_steps K bs) ++ past_take
+  past_count = section_checks sheet_kind bs (take_place sheet_kind bs) (take_steps sheet_kind bs) ++ past_take
 
   abbrev past_phrase : List Check
-  past_phrase = count_checks bs (count_place K bs) ++ past_count
+  past_phrase = count_checks bs (count_place sheet_kind bs) ++ past_count
 
   abbrev past_head : List Check
-  past_head = section_checks K bs 4 M ++ past_phrase
+  past_head = section_checks sheet_kind bs 4 phrase_steps ++ past_phrase
 
   pub at_head : (e : SheetRefusal) → FirstFailing (head_checks bs) e → Refused bs e
   at_head e f = refused bs e (first_in (head_checks bs) past_head e f)
 
-  pub at_phrase : (k : Kind) (m : ℕ) (e : SheetRefusal) → k ≡ K → m ≡ M → AllPass (head_checks bs) → FirstFailing (section_checks k bs 4 m) e → Refused bs e
+  pub at_phrase : (k : Kind) (m : ℕ) (e : SheetRefusal) → k ≡ sheet_kind → m ≡ phrase_steps → AllPass (head_checks bs) → FirstFailing (section_checks k bs 4 m) e → Refused bs e
   at_phrase k m e ek em p f =
-      let g : FirstFailing (section_checks K bs 4 M) e = subst (λ n. FirstFailing (section_checks K bs 4 n) e) em (subst (λ j. FirstFailing (section_checks j bs 4 m) e) ek f) in
-      refused bs e (first_after (head_checks bs) past_head e p (first_in (section_checks K bs 4 M) past_phrase e g))
+      let g : FirstFailing (section_checks sheet_kind bs 4 phrase_steps) e = subst (λ n. FirstFailing (section_checks sheet_kind bs 4 n) e) em (subst (λ j. FirstFailing (section_checks j bs 4 m) e) ek f) in
+      refused bs e (first_after (head_checks bs) past_head e p (first_in (section_checks sheet_kind bs 4 phrase_steps) past_phrase e g))
 
   -- a section, at the kind, the place and the count that the sheet gives
-  pub cut_out : (k : Kind) (place place' n n' : ℕ) (b : List ℕ) → k ≡ K → place ≡ place' → n ≡ n' → AllPass (section_checks k bs place n) × (b ≡ section k bs place n) → AllPass (section_checks K bs place' n') × (b ≡ section K bs place' n') × (length b ≡ n' * step_size K)
+  pub cut_out : (k : Kind) (place place' n n' : ℕ) (b : List ℕ) → k ≡ sheet_kind → place ≡ place' → n ≡ n' → AllPass (section_checks k bs place n) × (b ≡ section k bs place n) → AllPass (section_checks sheet_kind bs place' n') × (b ≡ section sheet_kind bs place' n') × (length b ≡ n' * step_size sheet_kind)
   cut_out k place place' n n' b ek ep en h =
       let one = subst (λ j. AllPass (section_checks j bs place n) × (b ≡ section j bs place n)) ek h in
-      let two = subst (λ p. AllPass (section_checks K bs p n) × (b ≡ section K bs p n)) ep one in
-      let three = subst (λ m. AllPass (section_checks K bs place' m) × (b ≡ section K bs place' m)) en two in
-      (three.0, three.1, ap length three.1 ∙ section_length K bs place' n' three.0.0)
+      let two = subst (λ p. AllPass (section_checks sheet_kind bs p n) × (b ≡ section sheet_kind bs p n)) ep one in
+      let three = subst (λ m. AllPass (section_checks sheet_kind bs place' m) × (b ≡ section sheet_kind bs place' m)) en two in
+      (three.0, three.1, ap length three.1 ∙ section_length sheet_kind bs place' n' three.0.0)
 
-  pub at_count : (p : ℕ) (e : SheetRefusal) → p ≡ count_place K bs → AllPass (head_checks bs) → AllPass (section_checks K bs 4 M) → FirstFailing (count_checks bs p) e → Refused bs e
+  pub at_count : (p : ℕ) (e : SheetRefusal) → p ≡ count_place sheet_kind bs → AllPass (head_checks bs) → AllPass (section_checks sheet_kind bs 4 phrase_steps) → FirstFailing (count_checks bs p) e → Refused bs e
   at_count p e ep h ph f =
-      let g : FirstFailing (count_checks bs (count_place K bs)) e = subst (λ n. FirstFailing (count_checks bs n) e) ep f in
-      refused bs e (first_after (head_checks bs) past_head e h (first_after (section_checks K bs 4 M) past_phrase e ph (first_in (count_checks bs (count_place K bs)) past_count e g)))
+      let g : FirstFailing (count_checks bs (count_place sheet_kind bs)) e = subst (λ n. FirstFailing (count_checks bs n) e) ep f in
+      refused bs e (first_after (head_checks bs) past_head e h (first_after (section_checks sheet_kind bs 4 phrase_steps) past_phrase e ph (first_in (count_checks bs (count_place sheet_kind bs)) past_count e g)))
 
-  pub at_played : (k : Kind) (p n : ℕ) (e : SheetRefusal) → k ≡ K → p ≡ take_place K bs → n ≡ take_steps K bs → AllPass (head_checks bs) → AllPass (section_checks K bs 4 M) → AllPass (count_checks bs (count_place K bs)) → FirstFailing (section_checks k bs p n) e → Refused bs e
+  pub at_played : (k : Kind) (p n : ℕ) (e : SheetRefusal) → k ≡ sheet_kind → p ≡ take_place sheet_kind bs → n ≡ take_steps sheet_kind bs → AllPass (head_checks bs) → AllPass (section_checks sheet_kind bs 4 phrase_steps) → AllPass (count_checks bs (count_place sheet_kind bs)) → FirstFailing (section_checks k bs p n) e → Refused bs e
   at_played k p n e ek ep en h ph ct f =
       let one = subst (λ j. FirstFailing (section_checks j bs p n) e) ek f in
-      let two = subst (λ q. FirstFailing (section_checks K bs q n) e) ep one in
-      let g : FirstFailing (section_checks K bs (take_place K bs) (take_steps K bs)) e = subst (λ m. FirstFailing (section_checks K bs (take_place K bs) m) e) en two in
-      refused bs e (first_after (head_checks bs) past_head e h (first_after (section_checks K bs 4 M) past_phrase e ph (first_after (count_checks bs (count_place K bs)) past_count e ct (first_in (section_checks K bs (take_place K bs) (take_steps K bs)) past_take e g))))
+      let two = subst (λ q. FirstFailing (section_checks sheet_kind bs q n) e) ep one in
+      let g : FirstFailing (section_checks sheet_kind bs (take_place sheet_kind bs) (take_steps sheet_kind bs)) e = subst (λ m. FirstFailing (section_checks sheet_kind bs (take_place sheet_kind bs) m) e) en two in
+      refused bs e (first_after (head_checks bs) past_head e h (first_after (section_checks sheet_kind bs 4 phrase_steps) past_phrase e ph (first_after (count_checks bs (count_place sheet_kind bs)) past_count e ct (first_in (section_checks sheet_kind bs (take_place sheet_kind bs) (take_steps sheet_kind bs)) past_take e g))))
 
-  pub at_end : (e : SheetRefusal) → AllPass (head_checks bs) → AllPass (section_checks K bs 4 M) → AllPass (count_checks bs (count_place K bs)) → AllPass (section_checks K bs (take_place K bs) (take_steps K bs)) → FirstFailing past_take e → Refused bs e
-  at_end e h ph ct pl f = refused bs e (first_after (head_checks bs) past_head e h (first_after (section_checks K bs 4 M) past_phrase e ph (first_after (count_checks bs (count_place K bs)) past_count e ct (first_after (section_checks K bs (take_place K bs) (take_steps K bs)) past_take e pl f))))
+  pub at_end : (e : SheetRefusal) → AllPass (head_checks bs) → AllPass (section_checks sheet_kind bs 4 phrase_steps) → AllPass (count_checks bs (count_place sheet_kind bs)) → AllPass (section_checks sheet_kind bs (take_place sheet_kind bs) (take_steps sheet_kind bs)) → FirstFailing past_take e → Refused bs e
+  at_end e h ph ct pl f = refused bs e (first_after (head_checks bs) past_head e h (first_after (section_checks sheet_kind bs 4 phrase_steps) past_phrase e ph (first_after (count_checks bs (count_place sheet_kind bs)) past_count e ct (first_after (section_checks sheet_kind bs (take_place sheet_kind bs) (take_steps sheet_kind bs)) past_take e pl f))))
 
-  pub all_through : AllPass (head_checks bs) → AllPass (section_checks K bs 4 M) → AllPass (count_checks bs (count_place K bs)) → AllPass (section_checks K bs (take_place K bs) (take_steps K bs)) → AllPass past_take → AllPass (sheet_checks bs)
-  all_through h ph ct pl f = passed_both (head_checks bs) past_head h (passed_both (section_checks K bs 4 M) past_phrase ph (passed_both (count_checks bs (count_place K bs)) past_count ct (passed_both (section_checks K bs (take_place K bs) (take_steps K bs)) past_take pl f)))
+  pub all_through : AllPass (head_checks bs) → AllPass (section_checks sheet_kind bs 4 phrase_steps) → AllPass (count_checks bs (count_place sheet_kind bs)) → AllPass (section_checks sheet_kind bs (take_place sheet_kind bs) (take_steps sheet_kind bs)) → AllPass past_take → AllPass (sheet_checks bs)
+  all_through h ph ct pl f = passed_both (head_checks bs) past_head h (passed_both (section_checks sheet_kind bs 4 phrase_steps) past_phrase ph (passed_both (count_checks bs (count_place sheet_kind bs)) past_count ct (passed_both (section_checks sheet_kind bs (take_place sheet_kind bs) (take_steps sheet_kind bs)) past_take pl f)))
 
   -- the take count, at the place where the phrase ends
-  pub count_out : (b : List ℕ) (n : ℕ) → length b ≡ M * step_size K → AllPass (count_checks bs (4 + length b)) × (n ≡ take_count bs (4 + length b)) → AllPass (count_checks bs (count_place K bs)) × (n ≡ take_steps K bs)
+  pub count_out : (b : List ℕ) (n : ℕ) → length b ≡ phrase_steps * step_size sheet_kind → AllPass (count_checks bs (4 + length b)) × (n ≡ take_count bs (4 + length b)) → AllPass (count_checks bs (count_place sheet_kind bs)) × (n ≡ take_steps sheet_kind bs)
   count_out b n e h = subst (λ l. AllPass (count_checks bs (4 + l)) × (n ≡ take_count bs (4 + l))) e h

@@ -1,12 +1,12 @@
 -- How long a sheet can be.
-use Rattle.std.proofs.Common.{◌≡◌, ℕ, ◌+◌, ◌*◌, ◌≤◌, List, length, replicate, refl, ◌∙◌, arith, lit≤}
+use Rattle.std.proofs.Common.{◌≡◌, ◌≤◌, List, length, replicate, ◌∙◌, arith, lit≤}
 use lib.ListN.{length-replicate}
 use Rattle.std.proofs.lemmas.Nat.{mul-le}
 use Rattle.steps.specs.declared.note.Note.{Note}
 use Rattle.terms.specs.Limits.{longest_phrase, longest_listed, widest_step}
 use Rattle.sheets.specs.declared.kind.Kind.{Kind}
 use Rattle.sheets.specs.declared.kind.Kind.TheVariants.{Lanes, Masks, Notes}
-use Rattle.sheets.specs.Layout.{step_size, Content, Allowed, LongestSheet}
+use Rattle.sheets.specs.Layout.{step_size, Content, LongestSheet}
 use Rattle.sheets.proofs.Sheets.{long}
 
 narrow : (k : Kind) → step_size k ≤ widest_step

@@ -1,5 +1,5 @@
 -- The checks decide the refusal: no two refusals are the first that fails.
-use Rattle.std.proofs.Common.{◌≡◌, ℕ, ◌+◌, ◌*◌, ◌<◌, ◌≤◌, List, [], ◌∷◌, sym, refl, ap, ◌∙◌, subst, inl, inr, ⊎_elim, arith}
+use Rattle.std.proofs.Common.{◌≡◌, ℕ, ◌+◌, ◌*◌, ◌≤◌, List, [], ◌∷◌, sym, ap, ◌∙◌, ⊎_elim, arith}
 use Rattle.std.proofs.str.Laws.{order}
 use Rattle.terms.specs.declared.refusal.Refusal.{Refusal}
 use Rattle.sheets.specs.declared.fault.SheetRefusal.{SheetRefusal}

@@ -1,12 +1,12 @@
 -- The bytes that pass every check are the sheets of contents in the limits.
-use Rattle.std.proofs.Common.{◌≡◌, ℕ, zero, suc, ◌+◌, ◌*◌, ◌/◌, ◌%◌, ◌<◌, ◌≤◌, List, [], ◌∷◌, ◌++◌, length, get_or, take, drop, sym, refl, ap, ◌∙◌, subst, arith, length-append, length-drop, take-append-drop}
+use Rattle.std.proofs.Common.{◌≡◌, ℕ, ◌+◌, ◌*◌, ◌/◌, ◌%◌, ◌<◌, ◌≤◌, List, [], ◌∷◌, ◌++◌, length, get_or, take, drop, sym, refl, ap, ◌∙◌, subst, arith, length-append, length-drop, take-append-drop}
 use Rattle.std.proofs.lemmas.List.{drop-drop, take_at, drop_at, take_all, get_or-drop}
 use Rattle.std.specs.List.{flat_map}
 use Rattle.terms.specs.Limits.{longest_phrase, longest_listed}
 use Rattle.sheets.specs.declared.kind.Kind.{Kind}
 use Rattle.sheets.specs.declared.kind.Kind.TheVariants.{Lanes, Masks, Notes}
 use Rattle.sheets.specs.Layout.{AllSteps, Lettered, letter_of, kind_at, step_size, StepOf, bytes_of, two, four, Content, Allowed, sheet_of}
-use Rattle.sheets.specs.Order.{AllPass, section, phrase_count, take_count, count_place, take_place, take_steps, checks_at, kind_of, sheet_checks}
+use Rattle.sheets.specs.Order.{AllPass, section, phrase_count, take_count, count_place, take_place, take_steps, checks_at, sheet_checks}
 use Rattle.sheets.proofs.Checks.{section_length}
 use Rattle.sheets.proofs.Rows.{gathered, joined_length, spread}
 
@@ -128,31 +128,31 @@ module _ (k : Kind) (q : ℕ) (ph pl : List (StepOf k)) where
   abbrev sheet : List ℕ
   sheet = sheet_of content
 
-  abbrev J : List ℕ
-  J = flat_map (bytes_of k) ph
+  abbrev phrase_row : List ℕ
+  phrase_row = flat_map (bytes_of k) ph
 
-  abbrev L : List ℕ
-  L = flat_map (bytes_of k) pl
+  abbrev played_row : List ℕ
+  played_row = flat_map (bytes_of k) pl
 
   count_two : phrase_count sheet ≡ length ph
   count_two = omega arith
 
-  phrase_long : length J ≡ length ph * step_size k
+  phrase_long : length phrase_row ≡ length ph * step_size k
   phrase_long = joined_length (bytes_of k) (step_size k) (sized k) ph
 
-  played_long : length L ≡ length pl * step_size k
+  played_long : length played_row ≡ length pl * step_size k
   played_long = joined_length (bytes_of k) (step_size k) (sized k) pl
 
   pub long : length sheet ≡ 8 + length ph * step_size k + length pl * step_size k
-  long = omega (arith, phrase_long, played_long, length-append J (four (length pl) ++ L))
+  long = omega (arith, phrase_long, played_long, length-append phrase_row (four (length pl) ++ played_row))
 
-  at_count : drop (4 + length ph * step_size k) sheet ≡ four (length pl) ++ L
-  at_count = sym (drop-drop (length ph * step_size k) 4 sheet) ∙ drop_at J (four (length pl) ++ L) (length ph * step_size k) phrase_long
+  at_count : drop (4 + length ph * step_size k) sheet ≡ four (length pl) ++ played_row
+  at_count = sym (drop-drop (length ph * step_size k) 4 sheet) ∙ drop_at phrase_row (four (length pl) ++ played_row) (length ph * step_size k) phrase_long
 
-  at_take : drop (4 + length ph * step_size k + 4) sheet ≡ L
+  at_take : drop (4 + length ph * step_size k + 4) sheet ≡ played_row
   at_take = sym (drop-drop 4 (4 + length ph * step_size k) sheet) ∙ ap (drop 4) at_count
 
-  byte_at : (i : ℕ) → get_or sheet (4 + length ph * step_size k + i) 0 ≡ get_or (four (length pl) ++ L) i 0
+  byte_at : (i : ℕ) → get_or sheet (4 + length ph * step_size k + i) 0 ≡ get_or (four (length pl) ++ played_row) i 0
   byte_at i = sym (get_or-drop (4 + length ph * step_size k) sheet i 0) ∙ ap (λ l. get_or l i 0) at_count
 
   count_four : take_count sheet (4 + length ph * step_size k) ≡ length pl
@@ -171,10 +171,10 @@ module _ (k : Kind) (q : ℕ) (ph pl : List (StepOf k)) where
   sound_phrase : AllSteps (bytes_of k) (step_size k) (section k sheet 4 (phrase_count sheet)) (phrase_count sheet)
   sound_phrase =
       subst (λ m. AllSteps (bytes_of k) (step_size k) (section k sheet 4 m) m) (sym count_two)
-      (subst (λ b. AllSteps (bytes_of k) (step_size k) b (length ph)) (sym (take_at J (four (length pl) ++ L) (length ph * step_size k) phrase_long)) (spread (bytes_of k) (step_size k) (sized k) ph))
+      (subst (λ b. AllSteps (bytes_of k) (step_size k) b (length ph)) (sym (take_at phrase_row (four (length pl) ++ played_row) (length ph * step_size k) phrase_long)) (spread (bytes_of k) (step_size k) (sized k) ph))
 
-  take_part : section k sheet (take_place k sheet) (length pl) ≡ L
-  take_part = ap (λ p. section k sheet (p + 4) (length pl)) place ∙ ap (take (length pl * step_size k)) at_take ∙ take_all (length pl * step_size k) L (omega (arith, played_long))
+  take_part : section k sheet (take_place k sheet) (length pl) ≡ played_row
+  take_part = ap (λ p. section k sheet (p + 4) (length pl)) place ∙ ap (take (length pl * step_size k)) at_take ∙ take_all (length pl * step_size k) played_row (omega (arith, played_long))
 
   sound_take : AllSteps (bytes_of k) (step_size k) (section k sheet (take_place k sheet) (take_steps k sheet)) (take_steps k sheet)
   sound_take =
