@@ -1,22 +1,20 @@
 -- How often a figure stands in a row, from one place of the row to the one before it.
-use Rattle.std.proofs.Common.{◌≡◌, ℕ, ◌+◌, ◌-◌, ◌<◌, ◌≤◌, Bool, true, false, ◌⊎◌, List, ◌∷◌, length, get_or, take, drop, Decides, sym, ap, ◌∙◌, inl, inr, arith}
+use Rattle.std.proofs.Common.{◌≡◌, ℕ, ◌+◌, ◌-◌, ◌<◌, ◌≤◌, Bool, true, false, ◌⊎◌, List, ◌∷◌, length, get_or, take, drop, Decides, nat_eq, sym, ap, ◌∙◌, inl, inr, arith}
 use Rattle.std.proofs.lemmas.List.{drop_all, drop_more, length-take, take_rest}
-use Rattle.std.proofs.lemmas.Slice.Eq.{slice_eq-Decides}
-use Rattle.std.specs.Cmp.Lexicographic.{Matches}
+use Rattle.std.specs.Cmp.Lexicographic.{pointwise, bytes_decides}
 use Rattle.std.proofs.lemmas.Bool.{cases_lt, cases_Bool}
 use Rattle.terms.specs.Figures.{count, figures, same}
 use Rattle.terms.proofs.Counts.{count_nil, count_same, count_other, same_eq}
 use Rattle.terms.proofs.Runs.{figures_more, figures_short}
-use Rattle.std.proofs.lemmas.Bool.Decides.{Decides-eqb}
 
 -- what `starts_with` tells of the row from a place on
 pub begins : (row f : List ℕ) (i : ℕ) (r : Bool)
-    → Matches (λ (a b : ℕ) (t : Bool). Decides t (a ≡ b)) f (take (length f) (take (length row - i) (drop i row))) r
+    → r ≡ pointwise nat_eq f (take (length f) (take (length row - i) (drop i row)))
     → Decides r (f ≡ take (length f) (drop i row))
 begins row f i r m =
     let e = ap (take (length f)) (take_rest row i) in
-    let d = slice_eq-Decides Decides-eqb f (take (length f) (take (length row - i) (drop i row))) r m in
-    (λ h. d.0 h ∙ e, λ h. d.1 (h ∙ sym e))
+    let d = bytes_decides f (take (length f) (take (length row - i) (drop i row))) in
+    (λ h. d.0 (sym m ∙ h) ∙ e, λ h. m ∙ d.1 (h ∙ sym e))
 
 pub times_end : (f row : List ℕ) (q : ℕ) → count f (figures q (drop (length row) row)) ≡ 0
 unfolding figures

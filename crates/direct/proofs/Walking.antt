@@ -3,7 +3,7 @@ use Rattle.std.proofs.Common.{◌≡◌, ℕ, ◌+◌, ◌-◌, ◌*◌, ◌<◌
 use lib.Seq.{take-length}
 use Rattle.std.proofs.lemmas.List.{drop_all, drop-drop, length-drop, take_rest}
 use Rattle.std.proofs.lemmas.Bool.{cases_lt, leb-true, leb-false}
-use Rattle.terms.specs.Figures.{gap, figures}
+use Rattle.terms.specs.Figures.{gap}
 use Rattle.terms.specs.Closest.{Closest}
 use Rattle.terms.proofs.Counts.{gap_far}
 use Rattle.terms.proofs.Runs.{length_figures}

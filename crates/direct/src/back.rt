@@ -1,6 +1,6 @@
 // The walk back over the starts of a take: each step adds one older figure to the stretch.
 ghost use Rattle.std.specs.Prelude.{◌≡◌, ◌≤◌, length, drop};
-ghost use Rattle.terms.specs.Figures.{gap as gap-between};
+ghost use Rattle.terms.specs.Figures.{gap as gap_between};
 ghost use Rattle.direct.specs.Walks.{NearestFrom, nearer};
 
 use super::counts::times;
@@ -15,8 +15,8 @@ pub(crate) struct Nearest {
 // The gap of a stretch, from that of the stretch without its first sound. The first figure brings the gap one nearer
 // while it stands less often among the newer ones than in the phrase, and else one farther.
 fn older(phrase: &[u32], q: usize, stretch: &[u32], newer: usize) -> usize
-    requires { (1 ≤ length stretch.now) × (newer ≡ gap-between q phrase.now (drop 1 stretch.now)) }
-    ensures { result ≡ gap-between q phrase.now stretch.now }
+    requires { (1 ≤ length stretch.now) × (newer ≡ gap_between q phrase.now (drop 1 stretch.now)) }
+    ensures { result ≡ gap_between q phrase.now stretch.now }
 {
     if stretch.len() < q {
         return newer;

@@ -28,11 +28,11 @@ farther c =
     let e = c.requires.1 in
     omega arith
 
-pub overflow-sub-result : goal.overflow-sub-result
-overflow-sub-result c = let e = nearer c in omega arith
+pub overflow_sub-result : goal.overflow_sub-result
+overflow_sub-result c = let e = nearer c in omega arith
 
-pub overflow-add-result : goal.overflow-add-result
-overflow-add-result c =
+pub overflow_add-result : goal.overflow_add-result
+overflow_add-result c =
     let e = farther c in
     let m = gap_most c.args.q c.args.phrase.now c.args.stretch.now in
     omega arith

@@ -1,4 +1,4 @@
-use Rattle.std.proofs.Common.{◌-◌, ◌<◌, length, take, sym, ap, ◌∙◌, subst, arith}
+use Rattle.std.proofs.Common.{◌-◌, ◌<◌, length, sym, ap, ◌∙◌, subst, arith}
 use Rattle.std.proofs.lemmas.List.{length-drop, take_rest}
 use Rattle.terms.specs.Figures.{gap}
 use Rattle.direct.specs.Walks.{NearestFrom}
@@ -28,7 +28,7 @@ loop-i-preserved c =
     let e = c.older-here.ensures ∙ ap (gap c.args.q p) (take_rest t (i - 1)) in
     let h : 0 < i = omega (arith, c.loop-i-test.true) in
     let n = walk_more c.args.q p t i c.loop-i.so_far c.older-here.result h c.loop-i.invariant.0 e in (
-      subst (NearestFrom c.args.q p t (i - 1)) (sym c.kept-so-far.ensures) n,
+      subst (NearestFrom c.args.q p t (i - 1)) (sym c.kept-so_far.ensures) n,
       e,
       omega (arith, c.loop-i-test.true),
       omega (arith, c.loop-i.invariant.3),

@@ -2,15 +2,15 @@ use Rattle.std.proofs.Common.{length, arith}
 use Rattle.direct.proofs.Walking.{gap_end, walked}
 use Rattle.direct.proofs.find.found.Goals as goal
 
-pub overflow-cast-result-2 : goal.overflow-cast-result-2
-overflow-cast-result-2 c =
+pub overflow_cast-result-2 : goal.overflow_cast-result-2
+overflow_cast-result-2 c =
     let t = c.args.take.now in
-    let l = c.walk-back-nearest.ensures.least (length t) (omega (arith, c.saturating-sub.ensures)) (omega arith) in
+    let l = c.walk_back-nearest.ensures.least (length t) (omega (arith, c.saturating_sub.ensures)) (omega arith) in
     omega (arith, gap_end c.args.q c.args.phrase.now t c.requires.from_one)
 
 pub returns : goal.returns
 returns c = record {
   number = omega arith;
-  closest = walked c.args.q c.args.phrase.now c.args.take.now c.saturating-sub.result c.walk-back-nearest.result
-      c.requires.from_one c.requires.to_phrase (omega (arith, c.saturating-sub.ensures)) c.walk-back-nearest.ensures;
+  closest = walked c.args.q c.args.phrase.now c.args.take.now c.saturating_sub.result c.walk_back-nearest.result
+      c.requires.from_one c.requires.to_phrase (omega (arith, c.saturating_sub.ensures)) c.walk_back-nearest.ensures;
 }

@@ -31,4 +31,4 @@ returns c =
     let y = counted c.args.q s c.args.y.now c.times-3.result l c.times-3.ensures in
     let e = over_new c.args.q c.args.rest.now c.args.x.now c.args.y.now s c.requires l
     (omega (arith, c.if-times-gt0.false)) (omega (arith, c.if-times-gt0-2.false)) in
-    omega (arith, c.abs-diff.ensures)
+    omega (arith, c.abs_diff.ensures)

@@ -27,8 +27,8 @@ one_more c =
     let b = ap (λ r. over c.args.q r c.args.rest.now c.args.x.now c.args.y.now) (one_newer row i h) in
     omega (arith, c.added-sum.ensures, c.loop-i.invariant.0)
 
-pub overflow-add-sum : goal.overflow-add-sum
-overflow-add-sum c =
+pub overflow_add-sum : goal.overflow_add-sum
+overflow_add-sum c =
     let row = c.args.row.now in
     let e = one_more c in
     let m = over_most c.args.q (drop (c.loop-i.i - 1) row) c.args.rest.now c.args.x.now c.args.y.now in
