@@ -1,12 +1,12 @@
 -- From an accepted sheet to its lines.
-use Rattle.std.proofs.Common.{◌≡◌, ℕ, ◌*◌, ◌<◌, ◌≤◌, List, map, length, sym, ap, ◌∙◌, subst, arith}
+use Rattle.std.proofs.Common.{◌≡◌, ℕ, ◌*◌, List, map, length, sym, ap, ◌∙◌, subst, arith}
 use Rattle.std.specs.List.{flat_map}
 use Rattle.sheets.specs.declared.kind.Kind.{Kind}
 use Rattle.sheets.specs.declared.parts.Part.{Part}
 use Rattle.sheets.specs.declared.parts.Section.{Section}
 use Rattle.sheets.specs.declared.parts.Section.TheVariants.{Phrase, Take}
 use Rattle.sheets.specs.declared.parts.Sheet.{Sheet}
-use Rattle.sheets.specs.Layout.{Allowed, Content, StepOf, bytes_of, sound_of, step_size}
+use Rattle.sheets.specs.Layout.{StepOf, bytes_of, sound_of, step_size}
 use Rattle.sheets.specs.Shown.{Accepted, IsPhrase, IsTake, part_of}
 use Rattle.sheets.proofs.Rows.{joined_length}
 use Rattle.sheets.proofs.Sheets.{sized}

@@ -1,4 +1,4 @@
-use Rattle.std.proofs.Common.{[], ◌∷◌, ◌++◌, decimal, refl, arith}
+use Rattle.std.proofs.Common.{[], ◌∷◌, decimal, refl, arith}
 use Rattle.listing.specs.Texts.{text_of}
 use Rattle.listing.proofs.Pasted.{pasted}
 use Rattle.listing.proofs.text.LineText.spaced.Goals as goal
