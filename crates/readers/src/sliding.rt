@@ -108,7 +108,7 @@ impl Reader for SlidingReader {
 
     ghost some = { reach_some };
 
-    ghost without = { first_of (Prim.search rules, Prim.grind (arith, Self.row.coded.inj)) };
+    ghost without = { Prim.search rules };
 
     fn new() -> SlidingReader {
         SlidingReader {

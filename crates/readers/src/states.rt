@@ -63,11 +63,11 @@ impl Reader for StatesReader {
         let h = k.short s.here k.inside in
         (omega arith, part_run p N.at N.len)) };
 
-    ghost most = { first_of (Prim.search rules, Prim.grind (arith, Self.row.coded.inj)) };
+    ghost most = { Prim.search rules };
 
-    ghost some = { first_of (Prim.search rules, Prim.grind (arith, Self.row.coded.inj)) };
+    ghost some = { Prim.search rules };
 
-    ghost without = { first_of (Prim.search rules, Prim.grind (arith, Self.row.coded.inj)) };
+    ghost without = { Prim.search rules };
 
     fn new() -> StatesReader {
         StatesReader {
