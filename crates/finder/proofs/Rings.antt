@@ -93,7 +93,7 @@ before_none f = refl
 pub before_to : (f : ℕ → ℕ) (n : ℕ) → n ≤ longest_phrase → before f longest_phrase ≤ longest_phrase → before f n ≤ longest_phrase
 before_to f n h b = let k = before_le f n longest_phrase h in omega arith
 
--- where the ring of a code ring-starts
+-- where the ring of a code starts
 starts_length : (f : ℕ → ℕ) (m : ℕ) → length (ring_starts f m) ≡ m + 1
 unfolding ring_starts
 starts_length f zero = refl

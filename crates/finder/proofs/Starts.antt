@@ -46,7 +46,7 @@ rings_unloaded =
     ∙ sym (rings_start 0 [])
 
 module _ {S R M : Type 0} (sound : S → ℕ) (memory : R → Memory) (marks : M → List Mark) where
-  -- a slot whose take ring-starts anew
+  -- a slot whose take starts anew
   pub represents_begun : (s t : Slot S R M) (ps : List S) (q : ℕ) → Begun sound memory marks s t
       → s.m ≡ length ps → s.q ≡ q → 0 < length ps → 1 ≤ q → q ≤ length ps → length ps ≤ longest_phrase
       → memory s.reader ≡ held (map sound ps) q [] → s.recent ≡ rings_at q (map sound ps) []

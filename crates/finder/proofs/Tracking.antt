@@ -55,7 +55,7 @@ module _ (ms ms' : List Mark) (r r' : Recent) (f : ℕ → ℕ) (cs : List ℕ) 
 
   is_wanted : (n ≡ 0 → ⊥) → (r' ≡ recalled f r step h) × (map worth ms' ≡ marks_for f (push h cs))
   is_wanted z =
-      let pos-n = above n z in
+      let pos_n = above n z in
       let want : 0 < f h = omega arith in
       let i = keeps.laid.counts.coded h want in
       let few = keeps.laid.counts.few h in
@@ -63,30 +63,30 @@ module _ (ms ms' : List Mark) (r r' : Recent) (f : ℕ → ℕ) (cs : List ℕ) 
       let at : ℕ = oldest r h n in
       let at_f : oldest r h (f h) ≡ at = ap (oldest r h) ef in
       let inside = oldest_in r k f cs h _ some' keeps i.0 i.1 want refl in
-      let u = turned.wanted pos-n i.0 i.1 (omega arith) (subst (λ v. v < longest_phrase) at_f inside) in
+      let u = turned.wanted pos_n i.0 i.1 (omega arith) (subst (λ v. v < longest_phrase) at_f inside) in
       let ep : pushed (mark_for n) ms ≡ pushed Minus ms = ap (λ b. pushed b ms) (minus n z) in
       let old : ℕ = get_or r.steps at 0 in
-      let old-f : get_or r.steps (oldest r h (f h)) 0 ≡ old = ap (λ v. get_or r.steps v 0) at_f in
+      let old_f : get_or r.steps (oldest r h (f h)) 0 ≡ old = ap (λ v. get_or r.steps v 0) at_f in
       let past = oldest_past r k f cs h _ some' keeps i.0 i.1 want refl in
       let past' : old ≤ k = omega arith in
       let lm = long ms f cs h n w ef el some marked in
       let lp = ap length ep ∙ length_pushed Minus ms in
-      let r-is : r' ≡ recalled f r step h = u.0 ∙ ap (λ v. noted r h v step) (sym ef) ∙ rw (ne_eqb (f h) 0 (λ e. z (sym ef ∙ e))) in (
-        r-is,
+      let r_is : r' ≡ recalled f r step h = u.0 ∙ ap (λ v. noted r h v step) (sym ef) ∙ rw (ne_eqb (f h) 0 (λ e. z (sym ef ∙ e))) in (
+        r_is,
         elim (cases_eq old 0) [
           | inl o ↦
-              let few-enough = rests r k f cs h _ some' keeps i.0 i.1 want refl w el (λ x. absurd (omega arith)) in
+              let few_enough = rests r k f cs h _ some' keeps i.0 i.1 want refl w el (λ x. absurd (omega arith)) in
               none_marked ms f cs h n w ef el some marked ms' (at_none _ ms' _ u.1 (age_none w step old o) ∙ ep) z (omega arith)
           | inr o ↦
-              let pos-o = above old o in
+              let pos_o = above old o in
               elim (cases_lt (step - old) w) [
                 | inl near ↦
-                    let e = at_some _ ms' _ (step - old) u.1 (age_near w step old pos-o (omega arith) near) (omega arith) in
+                    let e = at_some _ ms' _ (step - old) u.1 (age_near w step old pos_o (omega arith) near) (omega arith) in
                     let l = lifts r k f cs h _ some' keeps i.0 i.1 want refl w (step - old) el (omega arith) (omega arith) near in
                     some_marked ms f cs h n w ef el some marked (pushed Minus ms) ms' (step - old) refl (e ∙ ap (lifted (step - old)) ep) z (subst (λ v. LiftAt (push h cs) h v (w - 1 - (step - old))) ef l)
                 | inr far ↦
-                    let few-enough = rests r k f cs h _ some' keeps i.0 i.1 want refl w el (λ x. omega arith) in
-                    none_marked ms f cs h n w ef el some marked ms' (at_none _ ms' _ u.1 (age_far w step old pos-o (omega arith) far) ∙ ep) z (omega arith)
+                    let few_enough = rests r k f cs h _ some' keeps i.0 i.1 want refl w el (λ x. omega arith) in
+                    none_marked ms f cs h n w ef el some marked ms' (at_none _ ms' _ u.1 (age_far w step old pos_o (omega arith) far) ∙ ep) z (omega arith)
               ]
         ],
       )

@@ -116,7 +116,7 @@ module _ {S R M : Type 0} (sound : S → ℕ) (memory : R → Memory) (marks : M
       → made < length calls → made < length fs → n ≡ given (get_or calls made Clear) → recorded + n ≤ length ts
       → MakeTold sound memory marks reach c t (get_or calls made Clear) (take n (drop recorded ts)) (v, e) after
       → Going calls es rs v (made + 1) (recorded + used n e) (set fs made e) (put_mid recorded n ts after)
-  one_more calls es rs t made recorded fs ts go n v e after in-calls in-events lent fits told =
+  one_more calls es rs t made recorded fs ts go n v e after in_calls in_events lent fits told =
       let d = told.exact go.stage go.stands in
       let bs = d.1 in
       let long : length bs ≡ used n e = outcome_records sound reach c d.2 ∙ ap (λ m. used m e) (sym lent) in
@@ -124,8 +124,8 @@ module _ {S R M : Type 0} (sound : S → ℕ) (memory : R → Memory) (marks : M
       let ts' = put_mid recorded n ts after in
       let same : ts' ≡ put_mid recorded n ts (bs ++ drop (length bs) (take n (drop recorded ts))) =
       ap (put_mid recorded n ts) d.4 in
-      let long-calls = take_more calls made Clear in-calls in
-      let long-events = take_more_set fs made e in-events in
+      let long_calls = take_more calls made Clear in_calls in
+      let long_events = take_more_set fs made e in_events in
       let front : take (recorded + used n e) ts' ≡ take recorded ts ++ bs =
       ap (λ m. take (recorded + m) ts') (sym long) ∙ ap (take (recorded + length bs)) same
       ∙ written_front recorded n ts bs fits le in
@@ -137,7 +137,7 @@ module _ {S R M : Type 0} (sound : S → ℕ) (memory : R → Memory) (marks : M
       record {
         stage = d.0;
         life = subst (λ (p : List (Call S) × List Event × List Answer). Life sound reach c p.0 p.1 p.2 d.0)
-            (λ i. (sym long-calls i, sym long-events i, sym front i)) (more go.life d.2);
+            (λ i. (sym long_calls i, sym long_events i, sym front i)) (more go.life d.2);
         stands = d.3;
         of_calls = omega arith;
         of_events = omega (arith, length-set fs made e);
@@ -168,14 +168,14 @@ module _ {S R M : Type 0} (sound : S → ℕ) (memory : R → Memory) (marks : M
       → k ≡ get_or calls made Clear → w ≡ n → u ≡ used w e
       → MakeTold sound memory marks reach c t k (take w (drop recorded ts)) (v, e) after
       → Going calls es rs v (made + 1) (recorded + u) (set fs made e) (put_mid recorded w ts after)
-  one_call calls es rs t made recorded fs ts go n w u k v e after l l' lent fits same-call same-n same-u told =
+  one_call calls es rs t made recorded fs ts go n w u k v e after l l' lent fits same_call same_n same_u told =
       subst (λ (p : ℕ × ℕ).
       Going calls es rs v (made + 1) (recorded + p.0) (set fs made e) (put_mid recorded p.1 ts after))
-      (λ i. (sym (same-u ∙ ap (λ m. used m e) same-n) i, sym same-n i))
-      (one_more calls es rs t made recorded fs ts go n v e after l l' (lent ∙ ap given same-call) fits
+      (λ i. (sym (same_u ∙ ap (λ m. used m e) same_n) i, sym same_n i))
+      (one_more calls es rs t made recorded fs ts go n v e after l l' (lent ∙ ap given same_call) fits
       (subst (λ (p : Call S × ℕ).
       MakeTold sound memory marks reach c t p.0 (take p.1 (drop recorded ts)) (v, e) after)
-      (λ i. (same-call i, same-n i)) told))
+      (λ i. (same_call i, same_n i)) told))
 
   -- the end
   pub ended : (calls : List (Call S)) (es : List Event) (rs : List Answer) (t : Take S R M) (made recorded : ℕ)

@@ -61,11 +61,11 @@ module _ {S R M : Type 0} (sound : S → ℕ) (memory : R → Memory) (marks : M
       → Link sound memory marks reach c (shut_of t) (slot_of t) k' e' bs (shut_of v) (slot_of v)
       → after ≡ bs ++ drop (length bs) rs
       → MakeTold sound memory marks reach c t k rs (v, e) after
-  made_told t v {bs = bs} same-call same-event link same = record {
+  made_told t v {bs = bs} same_call same_event link same = record {
     exact = λ s st.
         let a = stood st in
         let d = link_outcome sound memory marks reach c link a.0 a.2 in
-        (staged (shut_of v) d.0, bs, at_same a.1 same-call same-event d.1, stand v d.0 d.2, same);
+        (staged (shut_of v) d.0, bs, at_same a.1 same_call same_event d.1, stand v d.0 d.2, same);
   }
 
   reopened : (s : Slot S R M) (v : Take S R M) → ReopenTold sound memory marks s v

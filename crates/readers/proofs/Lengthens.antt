@@ -11,7 +11,7 @@ use Rattle.readers.specs.Building.{run_more, run_tail, run_length, stands_grown,
 below_next : (P : ℕ → Type 0) (a : ℕ) → ((b : ℕ) → b < a → P b) → P a → (b : ℕ) → b < a + 1 → P b
 below_next P a f x b h = elim (up a b h) [ inl k ↦ f b k | inr k ↦ subst P (sym k) x ]
 
-module _ (p : List ℕ) (l a n : ℕ) (N : ℕ → Node) (places : List ℕ) (t : Built p l a (l + 1) n N places) (in-phrase : a + l < length p) (in-places : a < length places) where
+module _ (p : List ℕ) (l a n : ℕ) (N : ℕ → Node) (places : List ℕ) (t : Built p l a (l + 1) n N places) (in_phrase : a + l < length p) (in_places : a < length places) where
   here : Stands p n N l a (get_or places a 0)
   here = t.todo a (omega arith) (omega arith)
 
@@ -21,7 +21,7 @@ module _ (p : List ℕ) (l a n : ℕ) (N : ℕ → Node) (places : List ℕ) (t 
     below_next (λ b. Stands p m M (l + 1) b (get_or (set places a j) b 0)) a
         (λ b h. let ne : b ≢ a = λ e. omega arith in
         subst (Stands p m M (l + 1) b) (sym (get_or-set_other places a b j 0 ne)) (keep (l + 1) b _ (t.done b h)))
-        (subst (Stands p m M (l + 1) a) (sym (get_or-set_same places a j 0 in-places)) s),
+        (subst (Stands p m M (l + 1) a) (sym (get_or-set_same places a j 0 in_places)) s),
     λ b h k. let ne : b ≢ a = λ e. omega arith in
         subst (Stands p m M l b) (sym (get_or-set_other places a b j 0 ne)) (keep l b _ (t.todo b (omega arith) k)),
   )
@@ -33,7 +33,7 @@ module _ (p : List ℕ) (l a n : ℕ) (N : ℕ → Node) (places : List ℕ) (t 
         in_table = c.in_table;
         len_is = r.grows j c.some c.in_table ∙ ap (λ v. (N v).len + 1) c.parent_is ∙ ap (λ v. v + 1) here.len_is;
         run_is = r.made j c.some c.in_table ∙ ap₂ (λ u v. run p (N u) ++ (v ∷ [])) c.parent_is c.sound_is
-            ∙ ap (λ u. u ++ (get_or p (a + l) 0 ∷ [])) here.run_is ∙ sym (run_more p a l in-phrase);
+            ∙ ap (λ u. u ++ (get_or p (a + l) 0 ∷ [])) here.run_is ∙ sym (run_more p a l in_phrase);
       }) in
       record { runs = r; short = t.short; complete = t.complete; done = o.0; todo = o.1 }
 
@@ -46,7 +46,7 @@ module _ (p : List ℕ) (l a n : ℕ) (N : ℕ → Node) (places : List ℕ) (t 
       let o = others N' (n + 1) n (λ k b i. stands_grown p n _ s N N' g k b i) (stands_new p n _ s N N' g (l + 1) a el ea) in
       record {
         runs = runs_grown p n _ s N N' g r tr (omega arith)
-            (rs ∙ run_more p a l in-phrase ∙ ap₂ (λ u v. u ++ (v ∷ [])) (sym here.run_is) (sym es))
+            (rs ∙ run_more p a l in_phrase ∙ ap₂ (λ u v. u ++ (v ∷ [])) (sym here.run_is) (sym es))
             (el ∙ ap (λ v. v + 1) (sym here.len_is))
             (subst (λ v. v < n) (sym eh) nx.in_table)
             (ap (λ v. run p (N v)) eh ∙ nx.run_is ∙ sym (ap (drop 1) rs ∙ run_tail p a l (omega arith)))

@@ -51,8 +51,8 @@ module _ (p : List ℕ) (n i : ℕ) (s : Node) (N N' : ℕ → Node) (g : Grown 
   ]
 
   module _ (r : Runs p n N) (t : Tree n N) (fits : s.at + s.len ≤ length p)
-      (made-s : run p s ≡ run p (N i) ++ (s.sound ∷ [])) (grows-s : s.len ≡ (N i).len + 1)
-      (shorter-in-s : s.shorter < n) (shorter-is-s : run p (N s.shorter) ≡ drop 1 (run p s)) (shrinks-s : (N s.shorter).len + 1 ≡ s.len)
+      (made_s : run p s ≡ run p (N i) ++ (s.sound ∷ [])) (grows_s : s.len ≡ (N i).len + 1)
+      (shorter_in_s : s.shorter < n) (shorter_is_s : run p (N s.shorter) ≡ drop 1 (run p s)) (shrinks_s : (N s.shorter).len + 1 ≡ s.len)
       (free : Childless n N i s.sound) where
     inside : (j : ℕ) → (j < n) ⊎ (j ≡ n) → (N' j).at + (N' j).len ≤ length p
     inside j (inl h) = let a = (g.alike j h).at in let b = (g.alike j h).len in let c = r.inside j h in omega arith
@@ -66,7 +66,7 @@ module _ (p : List ℕ) (n i : ℕ) (s : Node) (N N' : ℕ → Node) (g : Grown 
         (sym (g.alike j h).sound)
     made j z (inr h) = subst (λ v. run p (N' v) ≡ run p (N' (N' v).parent) ++ ((N' v).sound ∷ [])) (sym h)
         (subst (λ (v : Node). run p v ≡ run p (N' v.parent) ++ (v.sound ∷ [])) (sym g.new)
-        (made-s ∙ ap (λ v. v ++ (s.sound ∷ [])) (sym (same_run i g.under) ∙ ap (λ v. run p (N' v)) (sym g.parent_is))))
+        (made_s ∙ ap (λ v. v ++ (s.sound ∷ [])) (sym (same_run i g.under) ∙ ap (λ v. run p (N' v)) (sym g.parent_is))))
 
     grows : (j : ℕ) → 0 < j → (j < n) ⊎ (j ≡ n) → (N' j).len ≡ (N' (N' j).parent).len + 1
     grows j z (inl h) =
@@ -74,7 +74,7 @@ module _ (p : List ℕ) (n i : ℕ) (s : Node) (N N' : ℕ → Node) (g : Grown 
         (g.alike j h).len ∙ r.grows j z h ∙ ap (λ v. v + 1) (sym (g.alike (N j).parent (omega arith)).len ∙ ap (λ v. (N' v).len) (sym (g.alike j h).parent))
     grows j z (inr h) = subst (λ v. (N' v).len ≡ (N' (N' v).parent).len + 1) (sym h)
         (subst (λ (v : Node). v.len ≡ (N' v.parent).len + 1) (sym g.new)
-        (grows-s ∙ ap (λ v. v + 1) (sym (g.alike i g.under).len ∙ ap (λ v. (N' v).len) (sym g.parent_is))))
+        (grows_s ∙ ap (λ v. v + 1) (sym (g.alike i g.under).len ∙ ap (λ v. (N' v).len) (sym g.parent_is))))
 
     shorter_in : (j : ℕ) → 0 < j → (j < n) ⊎ (j ≡ n) → (N' j).shorter < n + 1
     shorter_in j z (inl h) = let a = (g.alike j h).shorter in let b = r.shorter_in j z h in omega arith
@@ -84,20 +84,20 @@ module _ (p : List ℕ) (n i : ℕ) (s : Node) (N N' : ℕ → Node) (g : Grown 
     shorter_is j z (inl h) =
         ap (λ v. run p (N' v)) (g.alike j h).shorter ∙ same_run (N j).shorter (r.shorter_in j z h) ∙ r.shorter_is j z h ∙ ap (drop 1) (sym (same_run j h))
     shorter_is j z (inr h) = subst (λ v. run p (N' (N' v).shorter) ≡ drop 1 (run p (N' v))) (sym h)
-        (subst (λ (v : Node). run p (N' v.shorter) ≡ drop 1 (run p v)) (sym g.new) (same_run s.shorter shorter-in-s ∙ shorter-is-s))
+        (subst (λ (v : Node). run p (N' v.shorter) ≡ drop 1 (run p v)) (sym g.new) (same_run s.shorter shorter_in_s ∙ shorter_is_s))
 
     shrinks : (j : ℕ) → 0 < j → (j < n) ⊎ (j ≡ n) → (N' (N' j).shorter).len + 1 ≡ (N' j).len
     shrinks j z (inl h) =
         ap (λ v. v + 1) (ap (λ v. (N' v).len) (g.alike j h).shorter ∙ (g.alike (N j).shorter (r.shorter_in j z h)).len) ∙ r.shrinks j z h ∙ sym (g.alike j h).len
     shrinks j z (inr h) = subst (λ v. (N' (N' v).shorter).len + 1 ≡ (N' v).len) (sym h)
-        (subst (λ (v : Node). (N' v.shorter).len + 1 ≡ v.len) (sym g.new) (ap (λ v. v + 1) (g.alike s.shorter shorter-in-s).len ∙ shrinks-s))
+        (subst (λ (v : Node). (N' v.shorter).len + 1 ≡ v.len) (sym g.new) (ap (λ v. v + 1) (g.alike s.shorter shorter_in_s).len ∙ shrinks_s))
 
     -- no state was this run before
     unseen : (j : ℕ) → j < n → run p (N j) ≢ run p s
     unseen j h e = elim (cases_lt 0 j) [
       | inl z ↦
           let u = t.parent_in j z h in
-          let k = same_from_push (run p (N (N j).parent)) (run p (N i)) (N j).sound s.sound (sym (r.made j z h) ∙ e ∙ made-s) in
+          let k = same_from_push (run p (N (N j).parent)) (run p (N i)) (N j).sound s.sound (sym (r.made j z h) ∙ e ∙ made_s) in
           free j z h (r.apart (N j).parent i (omega arith) g.under k.0) k.1
       | inr z ↦
           let a = ap length e in

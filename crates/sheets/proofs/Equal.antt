@@ -1,4 +1,4 @@
--- Places of parts of equal step-size.
+-- Places of parts of equal step size.
 use Rattle.std.proofs.Common.{◌≡◌, ℕ, ◌+◌, ◌-◌, ◌*◌, ◌<◌, ◌≤◌, List, take, drop, ap, add-mul, one-mul, arith}
 use Rattle.std.proofs.lemmas.Nat.{mul-le}
 use Rattle.sheets.specs.Layout.{part}

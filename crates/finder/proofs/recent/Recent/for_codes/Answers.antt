@@ -18,11 +18,11 @@ loop-code-preserved g c =
     let i = c.loop-code.code in
     let l = c.loop-code.invariant.0 in
     let v = get_or xs (i - 1) 0 + c.count.result in
-    let now-is : v ≡ before f i = ap (λ k. k + c.count.result) (c.loop-code.invariant.1 (i - 1) (omega arith)) ∙ ap (λ k. before f (i - 1) + k) c.count.ensures ∙ sym (before_here f i (omega arith)) in (
+    let now_is : v ≡ before f i = ap (λ k. k + c.count.result) (c.loop-code.invariant.1 (i - 1) (omega arith)) ∙ ap (λ k. before f (i - 1) + k) c.count.ensures ∙ sym (before_here f i (omega arith)) in (
       simp length-set l,
       below_more (λ n. get_or (set xs i v) n 0 ≡ before f n) i
           (λ n h. get_or-set_other xs i n v 0 (λ e. absurd (omega arith)) ∙ c.loop-code.invariant.1 n h)
-          (get_or-set_same xs i v 0 (omega arith) ∙ now-is),
+          (get_or-set_same xs i v 0 (omega arith) ∙ now_is),
     )
 
 pub returns : goal.returns

@@ -32,8 +32,8 @@ loop-i-preserved g c =
       λ h t some.
           let before = c.loop-i.invariant.2 h t some in
           let played = told.exact (ran h (take i xs)) before.0 some in
-          let now-at = ran_more h (take i xs) x ∙ ap (ran h) (sym more) in (
-            subst (Represents sound memory marks c.play_at.new.self) now-at played.1,
+          let now_at = ran_more h (take i xs) x ∙ ap (ran h) (sym more) in (
+            subst (Represents sound memory marks c.play_at.new.self) now_at played.1,
             subst (λ zs. Played sound h zs (take (i + 1) c.play_at.new.records)) (sym more)
                 (subst (Played sound h (take i xs ++ (x ∷ []))) (sym records) (played_push sound x a before.1 played.0)),
           ),
