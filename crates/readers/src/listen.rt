@@ -1,6 +1,7 @@
 // What every reader does, proved over the trait alone.
 ghost use Rattle.std.specs.Prelude.{◌≡◌};
 ghost use Rattle.readers.specs.Listening.{HearsAll, HearsAfresh, Answered};
+ghost use Rattle.readers.specs.Memory.{Hears, counted};
 
 use crate::reader::Reader;
 use terms::refusal::Refusal;
@@ -35,8 +36,10 @@ pub fn listen<R: Reader>(phrase: &[u32], q: usize, c: u32, sounds: &[u32]) -> Re
     Ok(hear_all(&mut reader, sounds))
 }
 
-// Two readers of whatever make that mean the same answer a sound alike, and mean the same again.
+// Both readers hear the sound. Two of whatever make that mean the same answer it alike, and mean the same again.
 pub fn hear_alike<X: Reader, Y: Reader>(a: &mut X, b: &mut Y, sound: u32) -> (usize, usize)
+    ensures first { Hears (X.Reader.memory a.old) sound (X.Reader.memory a.new) result.0 }
+    ensures second { Hears (Y.Reader.memory b.old) sound (Y.Reader.memory b.new) result.1 }
     ensures answers { X.Reader.memory a.old ≡ Y.Reader.memory b.old → result.0 ≡ result.1 }
     ensures memories { X.Reader.memory a.old ≡ Y.Reader.memory b.old
         → X.Reader.memory a.new ≡ Y.Reader.memory b.new }
@@ -44,9 +47,11 @@ pub fn hear_alike<X: Reader, Y: Reader>(a: &mut X, b: &mut Y, sound: u32) -> (us
     (a.hear(sound), b.hear(sound))
 }
 
-// And they count alike.
+// Both readers count the figure of the code. Two that mean the same count alike.
 pub fn count_alike<X: Reader, Y: Reader>(a: &X, b: &Y, code: usize) -> (usize, usize)
-    ensures { X.Reader.memory a.now ≡ Y.Reader.memory b.now → result.0 ≡ result.1 }
+    ensures first { result.0 ≡ counted (X.Reader.memory a.now) code }
+    ensures second { result.1 ≡ counted (Y.Reader.memory b.now) code }
+    ensures alike { X.Reader.memory a.now ≡ Y.Reader.memory b.now → result.0 ≡ result.1 }
 {
     (a.count(code), b.count(code))
 }
