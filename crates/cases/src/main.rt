@@ -13,7 +13,7 @@ fn show(rt: &HostRuntime, input: &[u8]) -> io::Result<()> {
 
 fn show_cut(rt: &HostRuntime, sheet: &[u8]) -> io::Result<()> {
     for n in 0..sheet.len() {
-        show(rt, &sheet[0..n])?;
+        show(rt, &sheet[..n])?;
     }
     Ok(())
 }

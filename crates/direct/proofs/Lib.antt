@@ -2,4 +2,3 @@ pub mod Standing
 pub mod Older
 pub mod Walking
 pub mod Playing
-pub mod Summing

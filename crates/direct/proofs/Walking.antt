@@ -1,43 +1,49 @@
 -- The walk back: its start, a step of it, and that it finds the closest stretch where it goes far enough.
-use Rattle.std.proofs.Common.{◌≡◌, ℕ, ◌+◌, ◌-◌, ◌*◌, ◌<◌, ◌≤◌, Bool, true, false, cond, leb, List, length, take, drop, sym, refl, ap, ◌∙◌, inl, inr, arith}
+use Rattle.std.proofs.Common.{◌≡◌, ℕ, ◌+◌, ◌-◌, ◌*◌, ◌<◌, ◌≤◌, Bool, true, false, cond, leb, List, [], length, take, drop, nat_cmp, sym, refl, ap, ◌∙◌, subst, inl, inr, arith}
 use lib.Seq.{take-length}
-use Rattle.std.proofs.lemmas.List.{drop_all, drop-drop, length-drop, take_rest}
+use Rattle.std.proofs.lemmas.List.{length-drop, take_rest}
 use Rattle.std.proofs.lemmas.Bool.{cases_lt, leb-true, leb-false}
+use Rattle.std.proofs.lemmas.Bool.Decides.{nat_tests}
+use Rattle.std.specs.Ordering.{ord_min, ordering_then}
 use Rattle.terms.specs.Figures.{gap}
 use Rattle.terms.specs.Closest.{Closest}
 use Rattle.terms.proofs.Counts.{gap_far}
 use Rattle.terms.proofs.Runs.{length_figures}
 use Rattle.direct.specs.declared.back.Nearest.{Nearest}
-use Rattle.direct.specs.Walks.{NearestFrom, nearer}
-use Rattle.direct.proofs.Older.{gap_none}
+use Rattle.direct.specs.Walks.{NearestFrom}
+use Rattle.direct.proofs.Older.{gap_end, gap_none}
 
--- the one step older stretch, as `older` is handed it
-pub one_newer : (t : List ℕ) (i : ℕ) → 0 < i → drop 1 (take (length t - (i - 1)) (drop (i - 1) t)) ≡ drop i t
-one_newer t i h =
-    let e : i - 1 + 1 ≡ i = omega arith in
-    ap (drop 1) (take_rest t (i - 1)) ∙ drop-drop 1 (i - 1) t ∙ ap (λ n. drop n t) e
+-- the lesser of the nearest so far and an earlier start: the earlier one unless its gap is larger
+abbrev pub lesser : Nearest → Nearest → Nearest
+lesser = ord_min (λ (a b : Nearest). ordering_then (nat_cmp a.gap b.gap) (nat_cmp a.from b.from))
+
+lesser_is : (r : Nearest) (d i : ℕ) → i < r.from
+    → lesser r (record { gap = d; from = i }) ≡ cond (leb d r.gap) (record { gap = d; from = i }) r
+lesser_is r d i h = grind (arith, nat_tests)
 
 module _ (q : ℕ) (phrase t : List ℕ) where
-  pub gap_end : 1 ≤ q → length phrase + 1 - q ≡ gap q phrase (drop (length t) t)
-  gap_end h = sym (ap (gap q phrase) (drop_all (length t) t (omega arith)) ∙ gap_none q phrase h)
-
-  pub walk_start : 1 ≤ q → NearestFrom q phrase t (length t) (record { gap = length phrase + 1 - q; from = length t })
-  walk_start h =
-      let e = gap_end h in
+  pub walk_start : (d : ℕ) → d ≡ gap q phrase [] → NearestFrom q phrase t (length t) (record { gap = d; from = length t })
+  walk_start d e =
+      let k = gap_end q phrase t in
       record {
         after_low = omega arith;
         to_end = omega arith;
-        has_gap = sym e;
-        least = λ a l k. let f : a ≡ length t = omega arith in let g = ap (λ n. gap q phrase (drop n t)) f in omega arith;
-        first = λ a l k. absurd (omega arith);
+        has_gap = k ∙ sym e;
+        least = λ a l m. let f : a ≡ length t = omega arith in omega (arith, ap (λ n. gap q phrase (drop n t)) f);
+        first = λ a l m. absurd (omega arith);
       }
 
-  pub walk_more : (i : ℕ) (r : Nearest) (d : ℕ) → 0 < i → NearestFrom q phrase t i r → d ≡ gap q phrase (drop (i - 1) t)
-      → NearestFrom q phrase t (i - 1) (nearer r d (i - 1))
-  walk_more i r d h n e = go (leb d r.gap) refl
+  pub walk_more : (i : ℕ) (r : Nearest) (d : ℕ) → 0 < i → NearestFrom q phrase t i r
+      → d ≡ gap q phrase (take (length t - (i - 1)) (drop (i - 1) t))
+      → NearestFrom q phrase t (i - 1) (lesser r (record { gap = d; from = i - 1 }))
+  walk_more i r d h n k =
+      subst (NearestFrom q phrase t (i - 1)) (sym (lesser_is r d (i - 1) (omega (arith, n.after_low)))) (go (leb d r.gap) refl)
     where
+      e : d ≡ gap q phrase (drop (i - 1) t)
+      e = k ∙ ap (gap q phrase) (take_rest t (i - 1))
+
       here : (a : ℕ) → i - 1 ≤ a → a < i → gap q phrase (drop a t) ≡ d
-      here a l k = let f : a ≡ i - 1 = omega arith in ap (λ j. gap q phrase (drop j t)) f ∙ sym e
+      here a l m = let f : a ≡ i - 1 = omega arith in ap (λ j. gap q phrase (drop j t)) f ∙ sym e
 
       go : (b : Bool) → leb d r.gap ≡ b → NearestFrom q phrase t (i - 1) (cond b (record { gap = d; from = i - 1 }) r)
       go true b = let k = leb-true d r.gap b in record {
@@ -66,18 +72,18 @@ module _ (q : ℕ) (phrase t : List ℕ) where
 
   -- a stretch of more than 2m − q + 1 steps has so many figures that its gap is above that of the empty one
   too_far : (a : ℕ) → 1 ≤ q → q ≤ length phrase → 2 * length phrase + 1 < length t - a + q
-      → length phrase + 1 - q < gap q phrase (drop a t)
+      → gap q phrase [] < gap q phrase (drop a t)
   too_far a h k l =
       let f = gap_far q phrase (drop a t) in
       let g = length_figures q phrase h in
       let m = length_figures q (drop a t) h ∙ ap (λ n. n + 1 - q) (length-drop a t) in
-      omega arith
+      omega (arith, gap_none q phrase)
 
   pub walked : (low : ℕ) (r : Nearest) → 1 ≤ q → q ≤ length phrase → low ≡ length t - (2 * length phrase + 1 - q)
       → NearestFrom q phrase t low r → Closest q phrase t r.gap (r.from + 1)
   walked low r h k e n =
       let near = n.least (length t) (omega arith) (omega arith) in
-      let end = gap_end h in
+      let end = gap_end q phrase t in
       record {
         from_one = omega arith;
         to_end = omega (arith, n.to_end);

@@ -1,44 +1,32 @@
-// The gap between two rows: each figure that stands in one of them is counted in both, once.
-ghost use Rattle.std.specs.Prelude.{◌≡◌, ◌+◌, ◌≤◌, [], length, drop};
-ghost use Rattle.terms.specs.Figures.{gap};
-ghost use Rattle.direct.specs.Sums.{over};
+// The gap between two rows, one figure of the second after another.
+ghost use Rattle.std.specs.Prelude.{◌≡◌, ◌≤◌, length, drop};
+ghost use Rattle.terms.specs.Figures.{gap as gap_between};
 
-use super::counts::times;
+use crate::counts::times;
 
-// What the first figure of a row adds: nothing where it stands again later, in the row or in the rest.
-fn added(row: &[u32], rest: &[u32], x: &[u32], y: &[u32], q: usize) -> usize
-    requires { 1 ≤ length row.now }
-    ensures { over q row.now rest.now x.now y.now
-        ≡ over q (drop 1 row.now) rest.now x.now y.now + result }
+// The gap to a row, from that to the row without its first sound. The first figure brings the gap one nearer while it
+// stands less often among the later ones than in x, and else one farther.
+pub(crate) fn older(x: &[u32], y: &[u32], q: usize, newer: usize) -> usize
+    requires { (1 ≤ length y.now) × (newer ≡ gap_between q x.now (drop 1 y.now)) }
+    ensures { result ≡ gap_between q x.now y.now }
 {
-    if row.len() < q {
-        return 0;
+    let Some(figure) = y.get(..q) else {
+        return newer;
+    };
+    if times(&y[1..], figure) < times(x, figure) {
+        newer - 1
+    } else {
+        newer + 1
     }
-    let figure = &row[0..q];
-    if times(&row[1..], figure) > 0 || times(rest, figure) > 0 {
-        return 0;
-    }
-    times(x, figure).abs_diff(times(y, figure))
 }
 
-// Adds what the figures of a row add, from its last on, to the sum over the rest.
-fn summed(row: &[u32], rest: &[u32], x: &[u32], y: &[u32], q: usize, after: usize) -> usize
-    requires { after ≡ over q [] rest.now x.now y.now }
-    ensures { result ≡ over q row.now rest.now x.now y.now }
-{
-    let mut sum = after;
-    let mut i = row.len();
-    while i > 0 {
-        i -= 1;
-        sum += added(&row[i..], rest, x, y, q);
-    }
-    sum
-}
-
-// The gap between two rows, at figures of q sounds.
+// The gap between two rows, at figures of q sounds: that to an empty row is the number of the figures of x.
 pub fn gap_of(x: &[u32], y: &[u32], q: usize) -> usize
-    ensures { result ≡ gap q x.now y.now }
+    ensures { result ≡ gap_between q x.now y.now }
 {
-    let after = summed(y, &y[0..0], x, y, q, 0);
-    summed(x, y, x, y, q, after)
+    let mut gap = x.len().saturating_sub(q.saturating_sub(1));
+    for i in (0..y.len()).rev() {
+        gap = older(x, &y[i..], q, gap);
+    }
+    gap
 }

@@ -5,5 +5,5 @@ mod back;
 mod counts;
 pub mod find;
 pub mod gaps;
-mod judge;
+mod phrase;
 pub mod run;

@@ -8,16 +8,16 @@ mod tests {
     use direct::run::play;
     use std::process::Abort;
     use std::test::Fail;
-    use terms::answer::Answer;
+    use terms::answer::{Answer, BestStretch};
     use terms::limits::{LONGEST_FIGURE, LONGEST_PHRASE, LONGEST_TAKE};
-
-    const BLANK: Answer = Answer {
-        step: 0,
-        gap: 0,
-        start: 0,
-    };
+    use terms::refusal::Refusal;
 
     const PAST_PHRASE: usize = LONGEST_PHRASE + 1;
+
+    // The number of a call's refusal, 0 for an accepted call.
+    fn number<T: Drop>(outcome: Result<T, Refusal>) -> u8 {
+        outcome.err().map_or(0, Refusal::number)
+    }
 
     // The gap and the start of the closest stretch at the end of a take.
     fn ends_at(
@@ -28,29 +28,9 @@ mod tests {
         gap: u32,
         start: u32,
     ) -> Result<(), Fail> {
-        match closest(phrase, q, take) {
-            Ok(answer) => {
-                assert_eq!(rt; answer.gap, gap);
-                assert_eq!(rt; answer.start, start);
-                Ok(())
-            }
-            Err(_) => Err(Fail::new("refused")),
-        }
-    }
-
-    fn closest_number(phrase: &[u32], q: usize, take: &[u32]) -> u8 {
-        match closest(phrase, q, take) {
-            Ok(_) => 0,
-            Err(refusal) => refusal.number(),
-        }
-    }
-
-    // The number of a refusal, which is to leave the records as they were.
-    fn play_number(phrase: &[u32], q: usize, take: &[u32], records: &mut [Answer]) -> u8 {
-        match play(phrase, q, take, records) {
-            Ok(_) => 0,
-            Err(refusal) => refusal.number(),
-        }
+        let answer = closest(phrase, q, take)?;
+        assert_eq!(rt; (answer.gap, answer.start), (gap, start));
+        Ok(())
     }
 
     const fn row(step: u32, gap: u32, start: u32) -> Answer {
@@ -67,7 +47,7 @@ mod tests {
     ) -> Result<(), Fail> {
         assert!(rt; take.len() == wanted.len());
         for (i, want) in wanted.iter().enumerate() {
-            ends_at(rt, phrase, q, &take[0..i + 1], want.gap, want.start)?;
+            assert_eq!(rt; closest(phrase, q, &take[..i + 1])?, *want);
         }
         Ok(())
     }
@@ -84,15 +64,13 @@ mod tests {
             row(5, 0, 2),
             row(6, 1, 2),
         ];
-        let mut answers = [BLANK; 6];
-        match play(&phrase, 2, &take, &mut answers) {
-            Ok(Some(best)) => {
-                assert_eq!(rt; best.gap, 0);
-                assert_eq!(rt; best.start, 2);
-                assert_eq!(rt; best.end, 5);
-            }
-            _ => return Err(Fail::new("no best stretch")),
-        }
+        let mut answers = [Answer::default(); 6];
+        let best = BestStretch {
+            gap: 0,
+            start: 2,
+            end: 5,
+        };
+        assert_eq!(rt; play(&phrase, 2, &take, &mut answers)?, Some(best));
         assert!(rt; answers == wanted);
         all_are(&rt, &phrase, 2, &take, &wanted)
     }
@@ -117,38 +95,31 @@ mod tests {
 
     #[test]
     fn refuses_phrases(rt: HostRuntime) {
-        let long: [u32; PAST_PHRASE] = [1; PAST_PHRASE];
-        let mut one = [BLANK; 1];
-        assert_eq!(rt; closest_number(&[], 0, &[1]), 11);
-        assert_eq!(rt; closest_number(&long, 0, &[1]), 12);
-        assert_eq!(rt; closest_number(&[1, 2], 0, &[1]), 13);
-        assert_eq!(rt; closest_number(&[1, 2], 3, &[1]), 13);
-        assert_eq!(rt;
-            closest_number(&long[0..LONGEST_PHRASE], LONGEST_FIGURE + 1, &[1]),
-            13
-        );
-        assert_eq!(rt;
-            closest_number(&long[0..LONGEST_PHRASE], LONGEST_FIGURE, &[1]),
-            0
-        );
-        assert_eq!(rt; play_number(&[], 0, &[], &mut one), 11);
-        assert_eq!(rt; play_number(&long, 0, &[], &mut one), 12);
-        assert_eq!(rt; play_number(&[1, 2], 3, &[], &mut one), 13);
-        assert_eq!(rt; play_number(&[1, 2], 2, &[], &mut one), 21);
-        assert_eq!(rt; one[0].step, 0);
+        let long = [1; PAST_PHRASE];
+        let longest = &long[..LONGEST_PHRASE];
+        let mut one = [Answer::default(); 1];
+        assert_eq!(rt; number(closest(&[], 0, &[1])), 11);
+        assert_eq!(rt; number(closest(&long, 0, &[1])), 12);
+        assert_eq!(rt; number(closest(&[1, 2], 0, &[1])), 13);
+        assert_eq!(rt; number(closest(&[1, 2], 3, &[1])), 13);
+        assert_eq!(rt; number(closest(longest, LONGEST_FIGURE + 1, &[1])), 13);
+        assert_eq!(rt; number(closest(longest, LONGEST_FIGURE, &[1])), 0);
+        assert_eq!(rt; number(play(&[], 0, &[], &mut one)), 11);
+        assert_eq!(rt; number(play(&long, 0, &[], &mut one)), 12);
+        assert_eq!(rt; number(play(&[1, 2], 3, &[], &mut one)), 13);
+        assert_eq!(rt; number(play(&[1, 2], 2, &[], &mut one)), 21);
+        assert!(rt; one == [Answer::default(); 1]);
     }
 
     #[test]
     fn refuses_long_takes(rt: HostRuntime) -> Result<(), Fail> {
         let steps = LONGEST_TAKE as usize + 1;
         let take = vec![in rt.alloc(); 7u32; steps]?;
-        let mut records = vec![in rt.alloc(); BLANK; steps]?;
-        assert_eq!(rt; closest_number(&[1, 2], 1, &take), 23);
-        assert_eq!(rt; play_number(&[1, 2], 1, &take, &mut records), 23);
-        assert_eq!(rt; play_number(&[1, 2], 1, &take, &mut []), 21);
-        match play(&[1, 2], 1, &[], &mut []) {
-            Ok(None) => Ok(()),
-            _ => Err(Fail::new("a best stretch of no step")),
-        }
+        let mut records = vec![in rt.alloc(); Answer::default(); steps]?;
+        assert_eq!(rt; number(closest(&[1, 2], 1, &take)), 23);
+        assert_eq!(rt; number(play(&[1, 2], 1, &take, &mut records)), 23);
+        assert_eq!(rt; number(play(&[1, 2], 1, &take, &mut [])), 21);
+        assert_eq!(rt; play(&[1, 2], 1, &[], &mut [])?, None);
+        Ok(())
     }
 }

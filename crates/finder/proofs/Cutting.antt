@@ -7,16 +7,11 @@ use Rattle.terms.specs.Refusals.{when, first_of, view_refusal, cut_refusal}
 use Rattle.terms.specs.declared.refusal.Refusal.{Refusal}
 use Rattle.terms.specs.declared.refusal.Refusal.TheVariants.{OtherLength, NoBest, ShortPattern}
 use Rattle.finder.specs.History.{History}
-use Rattle.finder.specs.Views.{Viewed, BestLength, Copied, Pasted}
-
-pub refused_first : (n k s p : ℕ) (e : Refusal) → view_refusal n k ≡ Some e → cut_refusal n k s p ≡ Some e
-refused_first n k s p e h = go (not (eqb k n)) (eqb n 0) h
-  where
-    go : (a b : Bool) → first_of (when a OtherLength ∷ when b NoBest ∷ []) ≡ Some e
-        → first_of (when a OtherLength ∷ when b NoBest ∷ when (ltb p s) ShortPattern ∷ []) ≡ Some e
-    go true b i = i
-    go false true i = i
-    go false false i = absurd (let z : ◌≡◌ {A = ℕ} 0 1 = cc in omega arith)
+use Rattle.finder.specs.Views.{Viewed, BestLength, Copied, Pasted, ViewTold, CutTold}
+use Rattle.finder.specs.declared.slot.Slot.{Slot}
+use Rattle.std.specs.Borrow.{Bor}
+use Rattle.readers.specs.Memory.{Memory}
+use Rattle.rows.specs.declared.mark.Mark.{Mark}
 
 then_short : (n k s p : ℕ) → view_refusal n k ≡ None → cut_refusal n k s p ≡ first_of (when (ltb p s) ShortPattern ∷ [])
 then_short n k s p h = go (not (eqb k n)) (eqb n 0) h
@@ -44,7 +39,7 @@ module _ {S : Type 0} (sound : S → ℕ) (h : History S) (xs part ys : List S) 
       let w = whole_list (length h.take) (length xs) free in
       omega arith
 
-  pub pasted_cut : (r : Result ℕ Refusal) (zs : List S) → Pasted part ys r zs
+  pasted_cut : (r : Result ℕ Refusal) (zs : List S) → Pasted part ys r zs
       → MatchResult r
       (λ k. (cut_refusal (length h.take) (length xs) n (length ys) ≡ None) × Copied sound h xs ys k zs)
       (λ e. cut_refusal (length h.take) (length xs) n (length ys) ≡ Some e)
@@ -58,3 +53,10 @@ module _ {S : Type 0} (sound : S → ℕ) (h : History S) (xs part ys : List S) 
       let l = part_length in
       let w = p.exact.1 in
       then_short (length h.take) (length xs) n (length ys) free ∙ rw (lt-ltb (length ys) n (omega arith), p.exact.0)
+
+pub cut_told : {S R M : Type 0} (sound : S → ℕ) (memory : R → Memory) (marks : M → List Mark) (s : Slot S R M) (xs ys : List S) (v : Bor (List S) × ℕ)
+    (r : Result ℕ Refusal) (zs : List S) → ViewTold sound memory marks s xs (Ok v) → Pasted v.0.now ys r zs → CutTold sound memory marks s xs ys r zs
+cut_told sound memory marks s xs ys v r zs view p = record {
+  exact = λ h t n size. let k = view.exact h t in pasted_cut sound h xs v.0.now ys v.1 n k.1 size k.0 r zs p;
+  kept = p.kept;
+}

@@ -1,5 +1,5 @@
 -- The slot through a step.
-use Rattle.std.proofs.Common.{◌≡◌, ℕ, ◌+◌, ◌-◌, ◌*◌, ◌<◌, ◌≤◌, min, Bool, true, false, cond, leb, List, [], ◌∷◌, ◌++◌, map, length, drop, Some, None, Option, sym, refl, ap, ◌∙◌, subst, ap₂, arith, MatchOption}
+use Rattle.std.proofs.Common.{◌≡◌, ℕ, ◌+◌, ◌-◌, ◌<◌, ◌≤◌, min, Bool, true, false, cond, leb, List, [], ◌∷◌, ◌++◌, map, length, drop, Some, None, Option, sym, refl, ap, ◌∙◌, subst, ap₂, arith, MatchOption}
 use native.Mathlib.Nat.{min-eq_left}
 use Rattle.std.proofs.lemmas.List.{length_push, length-map, map_push, length-drop, drop-drop, drop-append-le}
 use Rattle.std.proofs.lemmas.Bool.{leb-true, leb-false}
@@ -13,9 +13,11 @@ use Rattle.readers.specs.Memory.{Memory}
 use Rattle.rows.specs.LampRings.{answers, answered}
 use Rattle.rows.specs.declared.mark.Mark.{Mark}
 use Rattle.finder.specs.Recent.{rings_at}
-use Rattle.finder.specs.Turns.{Heard, Turned, ReadsOff, better_of, best_at}
+use Rattle.terms.specs.Bettered.{best_at, better_of}
+use Rattle.finder.specs.Turns.{ListenTold, Turned, ReadsOff}
 use Rattle.finder.specs.History.{History, stepped, last_step, Answered, gap_and_step, LampList}
-use Rattle.finder.specs.Slots.{Tracks, width, Represents}
+use Rattle.finder.specs.Slots.{Tracks, length_of, figure_of, Represents}
+use Rattle.finder.specs.declared.slot.Lengths.{Lengths}
 use Rattle.finder.specs.declared.slot.Slot.{Slot}
 use Rattle.finder.proofs.Ran.{played_push}
 use Rattle.finder.proofs.Tracking.{tracks_step, tracks_closest, small_gap}
@@ -70,34 +72,35 @@ in_range a ls g s =
     ap₂ (λ i j. newest lamp_length (ls ++ ((i, j) ∷ []))) eg es
 
 module _ {S R M : Type 0} (sound : S → ℕ) (memory : R → Memory) (marks : M → List Mark) where
-  pub represents_step : (s t : Slot S R M) (h : History S) (x : S) (a : Answer) (c n w : ℕ)
-      → Represents sound memory marks s h → 0 < length h.phrase
-      → Heard (memory s.reader) (sound x) (memory t.reader) c n
-      → Turned (marks s.row) s.recent t.count c n w (marks t.row) t.recent → w ≡ 2 * (s.m - s.q + 1)
-      → t.m ≡ s.m → t.q ≡ s.q → t.count ≡ s.count + 1 → t.last ≡ Some x
-      → ReadsOff t.m t.q t.count (marks t.row) a → t.best ≡ Some (better_of s.best a)
+  pub represents_step : (s t : Slot S R M) (l : Lengths) (h : History S) (x : S) (a : Answer) (c n : ℕ)
+      → s.lengths ≡ Some l → Represents sound memory marks s h
+      → ListenTold (memory s.reader) (sound x) (memory t.reader) c n
+      → Turned (marks s.row) s.recent t.count c n (marks t.row) t.recent
+      → t.lengths ≡ s.lengths → t.count ≡ s.count + 1 → t.last ≡ Some x
+      → ReadsOff l.phrase l.figure t.count (marks t.row) a → t.best ≡ Some (better_of s.best a)
       → answers t.lamp ≡ answered a.gap a.step (answers s.lamp)
       → Answered sound (stepped h x) a × Represents sound memory marks t (stepped h x)
-  represents_step s t h x a c n w k some hs turned ew em eq ec el off eb ea =
+  represents_step s t l h x a c n es k hs turned et ec el off eb ea =
       let p = map sound h.phrase in
       let u = map sound h.take in
       let lp = length-map h.phrase sound in
       let lu = length-map h.take sound in
+      let e1 : l.phrase ≡ length h.phrase = sym (ap length_of es) ∙ k.size in
+      let e2 : l.figure ≡ h.q = sym (ap figure_of es) ∙ k.figure in
+      let from = l.some in
+      let to = l.figured in
+      let some : 0 < length h.phrase = omega arith in
       let old = k.tracks some in
-      let to = old.to_length in
-      let e1 = k.size in
-      let e2 = k.figure in
       let e3 = k.count in
-      let ww : w ≡ width h.q p = ew ∙ ap (λ i. 2 * i) (omega arith) in
-      let both = tracks_step h.q p u (memory s.reader) (memory t.reader) s.recent t.recent (marks s.row) (marks t.row) (sound x) c n w t.count
-      old k.rings hs turned ww (omega arith) in
+      let both = tracks_step h.q p u (memory s.reader) (memory t.reader) s.recent t.recent (marks s.row) (marks t.row) (sound x) c n t.count
+      old k.rings hs turned (omega arith) in
       let tracks = both.0 in
       let lpush = length_push u (sound x) in
-      let off' = subst (λ i. ReadsOff t.m i t.count (marks t.row) a) (eq ∙ k.figure) off in
-      let em' : t.m ≡ length p = omega arith in
+      let off' = subst (λ i. ReadsOff l.phrase i t.count (marks t.row) a) e2 off in
+      let em' : l.phrase ≡ length p = omega arith in
       let en' : t.count ≡ length (u ++ (sound x ∷ [])) = omega arith in
-      let near = tracks_closest h.q p (u ++ (sound x ∷ [])) (memory t.reader) (marks t.row) t.m t.count a tracks em' en' off' in
-      let small = small_gap h.q p (u ++ (sound x ∷ [])) (memory t.reader) (marks t.row) t.m t.count a tracks em' en' off' in
+      let near = tracks_closest h.q p (u ++ (sound x ∷ [])) (memory t.reader) (marks t.row) l.phrase t.count a tracks em' en' off' in
+      let small = small_gap h.q p (u ++ (sound x ∷ [])) (memory t.reader) (marks t.row) l.phrase t.count a tracks em' en' off' in
       let e = sym (map_push sound h.take x) in
       let num = off.number in
       let few = t.few in
@@ -106,8 +109,8 @@ module _ {S R M : Type 0} (sound : S → ℕ) (memory : R → Memory) (marks : M
       let told : Answered sound (stepped h x) a = record { number = omega arith; closest = subst (λ z. Closest h.q p z a.gap a.start) e near } in (
         told,
         record {
-          size = em ∙ k.size;
-          figure = eq ∙ k.figure;
+          size = ap length_of et ∙ k.size;
+          figure = ap figure_of et ∙ k.figure;
           count = omega arith;
           last = el ∙ sym (last_push h.take x);
           best = subst (λ o. MatchOption o (h.take ++ (x ∷ []) ≡ []) (BestIs h.q p (map sound (h.take ++ (x ∷ []))))) (sym eb)

@@ -8,6 +8,7 @@ pub mod Recalling
 pub mod Tracking
 pub mod Ran
 pub mod Following
+pub mod Playing
 pub mod Starts
 pub mod Shown
 pub mod One

@@ -6,9 +6,9 @@ use Rattle.terms.specs.Limits.{longest_phrase}
 use Rattle.terms.specs.Figures.{figures}
 use Rattle.terms.specs.Codes.{push, heard, count_of, codes_at, code}
 use Rattle.terms.proofs.Coded.{window_step, every_step}
-use Rattle.finder.specs.Recent.{ring_starts, laid, emptied, recalled, rings_on, codes_on, rings_at}
+use Rattle.finder.specs.Recent.{laid, recalled, rings_on, codes_on, rings_at}
 use Rattle.finder.specs.declared.recent.Recent.{Recent}
-use Rattle.finder.proofs.Rings.{Recalls, laid_out, starts_at, fresh, passed, recalls}
+use Rattle.finder.proofs.Rings.{Recalls, fresh, passed, recalls}
 use Rattle.finder.proofs.Counted.{counts_of, before_few}
 
 codes_length : (q : ℕ) (p t xs : List ℕ) → length (codes_on q p t xs) ≡ length xs
@@ -43,24 +43,6 @@ pub rings_start : (q : ℕ) (p : List ℕ) → rings_at q p [] ≡ laid (count_o
 unfolding rings_on codes_on
 rings_start q p = refl
 
--- where the rings lie does not change
-recalled_first : (f : ℕ → ℕ) (r : Recent) (n c : ℕ) → (recalled f r n c).first ≡ r.first
-recalled_first f r n c = elim (cases_eq (f c) 0) [
-  | inl e ↦ rw (eq-eqb (f c) 0 e)
-  | inr e ↦ rw (ne_eqb (f c) 0 e)
-]
-
-on_first : (f : ℕ → ℕ) (n : ℕ) (r : Recent) (cs : List ℕ) → (rings_on f n r cs).first ≡ r.first
-unfolding rings_on
-on_first f n r [] = refl
-on_first f n r (c ∷ cs) = on_first f (n + 1) (recalled f r (n + 1) c) cs ∙ recalled_first f r (n + 1) c
-
-pub rings_emptied : (q : ℕ) (p t : List ℕ) → emptied (rings_at q p t) ≡ rings_at q p []
-rings_emptied q p t =
-    let f = count_of (figures q p) in
-    ap (λ first. record { steps = replicate longest_phrase 0; first = first; next = replicate longest_phrase 0 }) (on_first f 0 (laid f) (codes_on q p [] t))
-    ∙ sym (rings_start q p)
-
 recall_step : (r : Recent) (n : ℕ) (f : ℕ → ℕ) (cs : List ℕ) (c : ℕ) → 0 < length cs → Recalls r n f cs → Recalls (recalled f r (n + 1) c) (n + 1) f (push c cs)
 recall_step r n f cs c some k = elim (cases_eq (f c) 0) [
   | inl e ↦ rw (eq-eqb (f c) 0 e) (passed r n f cs c some k e)
@@ -90,8 +72,7 @@ module _ (q w : ℕ) (p : List ℕ) (from : 1 ≤ q) (short : length p ≤ longe
   begun =
       let f = count_of (figures q p) in
       let c = counts_of q p from short in
-      let l = laid_out (ring_starts f longest_phrase) f c (before_few q p longest_phrase from short) (λ n h. starts_at f longest_phrase n (omega arith)) in
-      let k = fresh (laid f) w f refl refl l in
+      let k = fresh w f c (before_few q p longest_phrase from short) in
       subst (λ r. Recalls r 0 f (codes_at q w p [])) (sym (rings_start q p)) (subst (Recalls (laid f) 0 f) (sym (every_step q w p from wide).codes_start) k)
 
   one_more : (t : List ℕ) (x : ℕ) → RecallsAt t → RecallsAt (t ++ (x ∷ []))

@@ -1,7 +1,7 @@
 -- Reader, rings and row through a step, and the closest stretch that the row tells.
 use Rattle.std.proofs.Common.{◌≡◌, ℕ, zero, suc, ◌+◌, ◌-◌, ◌<◌, ◌≤◌, max, List, [], ◌∷◌, ◌++◌, map, length, get_or, replicate, ℤ, pos, ◌+ℤ◌, Some, None, Option, sym, refl, ap, ◌∙◌, subst, inl, inr, arith}
 use borrow.Author.Differences.{ints}
-use Rattle.std.proofs.lemmas.Bool.{cases_lt, cases_eq, eq-eqb, ne_eqb, lt-ltb, le-ltb}
+use Rattle.std.proofs.lemmas.Bool.{cases_lt, cases_eq, eq-eqb, ne_eqb, le-ltb}
 use Rattle.terms.specs.Limits.{longest_phrase}
 use Rattle.terms.specs.Figures.{figures}
 use Rattle.terms.specs.Marks.{Least}
@@ -16,8 +16,8 @@ use Rattle.readers.specs.Memory.{Memory, held, Hears, with_phrase, counted}
 use Rattle.rows.specs.Rows.{worth, pushed, lifted}
 use Rattle.rows.specs.declared.mark.Mark.{Mark}
 use Rattle.rows.specs.declared.mark.Mark.TheVariants.{Plus, Minus}
-use Rattle.finder.specs.Recent.{oldest, noted, recalled, rings_at, age_below}
-use Rattle.finder.specs.Turns.{Heard, Turned, Lifted, mark_for, GapOf, ReadsOff}
+use Rattle.finder.specs.Recent.{oldest, noted, recalled, rings_at, age_at}
+use Rattle.finder.specs.Turns.{ListenTold, Turned, Lifted, mark_for, GapOf, ReadsOff}
 use Rattle.finder.specs.Slots.{Tracks, width}
 use Rattle.finder.specs.declared.recent.Recent.{Recent}
 use Rattle.finder.proofs.Entries.{LiftAt}
@@ -26,26 +26,24 @@ use Rattle.finder.proofs.Rings.{Recalls, lifts, rests, oldest_past, oldest_in}
 use Rattle.finder.proofs.Recalling.{recall_at, rings_step, length_codes}
 use Rattle.finder.proofs.Marked.{never_marked, none_marked, some_marked, long}
 
-age_none : (w step old : ℕ) → old ≡ 0 → age_below w step old ≡ None
-age_none w step old e = rw (eq-eqb old 0 e)
+age_none : (step old : ℕ) → old ≡ 0 → age_at step old ≡ None
+age_none step old e = rw (eq-eqb old 0 e)
 
-age_far : (w step old : ℕ) → 0 < old → old ≤ step → w ≤ step - old → age_below w step old ≡ None
-age_far w step old a b d = rw (ne_eqb old 0 (λ e. absurd (omega arith)), le-ltb step old b, le-ltb (step - old) w d)
-
-age_near : (w step old : ℕ) → 0 < old → old ≤ step → step - old < w → age_below w step old ≡ Some (step - old)
-age_near w step old a b d = rw (ne_eqb old 0 (λ e. absurd (omega arith)), le-ltb step old b, lt-ltb (step - old) w d)
+age_some : (step old : ℕ) → 0 < old → old ≤ step → age_at step old ≡ Some (step - old)
+age_some step old a b = rw (ne_eqb old 0 (λ e. absurd (omega arith)), le-ltb step old b)
 
 at_none : (ms ms' : List Mark) (o : Option ℕ) → Lifted ms o ms' → o ≡ None → ms' ≡ ms
 at_none ms ms' o l e = (subst (λ v. Lifted ms v ms') e l).exact
 
-at_some : (ms ms' : List Mark) (o : Option ℕ) (age : ℕ) → Lifted ms o ms' → o ≡ Some age → age < length ms → ms' ≡ lifted age ms
-at_some ms ms' o age l e h = (subst (λ v. Lifted ms v ms') e l).exact h
+at_some : (ms ms' : List Mark) (o : Option ℕ) (age : ℕ) → Lifted ms o ms' → o ≡ Some age
+    → (age < length ms → ms' ≡ lifted age ms) × (length ms ≤ age → ms' ≡ ms)
+at_some ms ms' o age l e = (subst (λ v. Lifted ms v ms') e l).exact
 
 above : (i : ℕ) → (i ≡ 0 → ⊥) → 0 < i
 above zero h = absurd (h refl)
 above (suc i) h = omega arith
 
-module _ (ms ms' : List Mark) (r r' : Recent) (f : ℕ → ℕ) (cs : List ℕ) (k step h n w : ℕ) (turned : Turned ms r step h n w ms' r') (keeps : Recalls r k f cs)
+module _ (ms ms' : List Mark) (r r' : Recent) (f : ℕ → ℕ) (cs : List ℕ) (k step h n w : ℕ) (turned : Turned ms r step h n ms' r') (keeps : Recalls r k f cs)
     (es : step ≡ k + 1) (ef : f h ≡ n) (el : length cs ≡ w) (some : 0 < w) (marked : map worth ms ≡ marks_for f cs) where
   not_wanted : n ≡ 0 → (r' ≡ recalled f r step h) × (map worth ms' ≡ marks_for f (push h cs))
   not_wanted z =
@@ -58,12 +56,11 @@ module _ (ms ms' : List Mark) (r r' : Recent) (f : ℕ → ℕ) (cs : List ℕ) 
       let pos_n = above n z in
       let want : 0 < f h = omega arith in
       let i = keeps.laid.counts.coded h want in
-      let few = keeps.laid.counts.few h in
       let some' : 0 < length cs = omega arith in
       let at : ℕ = oldest r h n in
       let at_f : oldest r h (f h) ≡ at = ap (oldest r h) ef in
       let inside = oldest_in r k f cs h _ some' keeps i.0 i.1 want refl in
-      let u = turned.wanted pos_n i.0 i.1 (omega arith) (subst (λ v. v < longest_phrase) at_f inside) in
+      let u = turned.wanted pos_n i.0 i.1 (subst (λ v. v < longest_phrase) at_f inside) in
       let ep : pushed (mark_for n) ms ≡ pushed Minus ms = ap (λ b. pushed b ms) (minus n z) in
       let old : ℕ = get_or r.steps at 0 in
       let old_f : get_or r.steps (oldest r h (f h)) 0 ≡ old = ap (λ v. get_or r.steps v 0) at_f in
@@ -76,17 +73,17 @@ module _ (ms ms' : List Mark) (r r' : Recent) (f : ℕ → ℕ) (cs : List ℕ) 
         elim (cases_eq old 0) [
           | inl o ↦
               let few_enough = rests r k f cs h _ some' keeps i.0 i.1 want refl w el (λ x. absurd (omega arith)) in
-              none_marked ms f cs h n w ef el some marked ms' (at_none _ ms' _ u.1 (age_none w step old o) ∙ ep) z (omega arith)
+              none_marked ms f cs h n w ef el some marked ms' (at_none _ ms' _ u.1 (age_none step old o) ∙ ep) z (omega arith)
           | inr o ↦
               let pos_o = above old o in
               elim (cases_lt (step - old) w) [
                 | inl near ↦
-                    let e = at_some _ ms' _ (step - old) u.1 (age_near w step old pos_o (omega arith) near) (omega arith) in
+                    let e = (at_some _ ms' _ (step - old) u.1 (age_some step old pos_o (omega arith))).0 (omega arith) in
                     let l = lifts r k f cs h _ some' keeps i.0 i.1 want refl w (step - old) el (omega arith) (omega arith) near in
                     some_marked ms f cs h n w ef el some marked (pushed Minus ms) ms' (step - old) refl (e ∙ ap (lifted (step - old)) ep) z (subst (λ v. LiftAt (push h cs) h v (w - 1 - (step - old))) ef l)
                 | inr far ↦
                     let few_enough = rests r k f cs h _ some' keeps i.0 i.1 want refl w el (λ x. omega arith) in
-                    none_marked ms f cs h n w ef el some marked ms' (at_none _ ms' _ u.1 (age_far w step old pos_o (omega arith) far) ∙ ep) z (omega arith)
+                    none_marked ms f cs h n w ef el some marked ms' ((at_some _ ms' _ (step - old) u.1 (age_some step old pos_o (omega arith))).1 (omega arith) ∙ ep) z (omega arith)
               ]
         ],
       )
@@ -101,10 +98,10 @@ heard_by : {p e : List ℕ} {q x a : ℕ} {m : Memory} → Hears (held p q e) x 
     → (e' : List ℕ) × (m ≡ held p q e') × LongestEnd q p (e ++ (x ∷ [])) e' × (a ≡ answered q p e')
 heard_by (with_phrase {r'} l s) = (r', refl, l, s)
 
-pub tracks_step : (q : ℕ) (p t : List ℕ) (m m' : Memory) (r r' : Recent) (ms ms' : List Mark) (x h n w s : ℕ)
-    → Tracks q p t m ms → r ≡ rings_at q p t → Heard m x m' h n → Turned ms r s h n w ms' r' → w ≡ width q p → s ≡ length t + 1
+pub tracks_step : (q : ℕ) (p t : List ℕ) (m m' : Memory) (r r' : Recent) (ms ms' : List Mark) (x h n s : ℕ)
+    → Tracks q p t m ms → r ≡ rings_at q p t → ListenTold m x m' h n → Turned ms r s h n ms' r' → s ≡ length t + 1
     → Tracks q p (t ++ (x ∷ [])) m' ms' × (r' ≡ rings_at q p (t ++ (x ∷ [])))
-tracks_step q p t m m' r r' ms ms' x h n w s k er hs turned ew es =
+tracks_step q p t m m' r r' ms ms' x h n s k er hs turned es =
     let ps = figures q p in
     let re = k.remembers in
     let hb = heard_by (subst (λ z. Hears z x m' h) re.1 hs.hears) in
@@ -118,7 +115,7 @@ tracks_step q p t m m' r r' ms ms' x h n w s k er hs turned ew es =
     let fn : count_of ps h ≡ n = sym (hs.wanted ∙ ap (λ z. counted z h) hb.1) in
     let keeps = subst (λ z. Recalls z (length t) (count_of ps) (codes_at q (width q p) p t)) (sym er) (recall_at q (width q p) p k.from_one k.short le t) in
     let marked = k.marked ∙ row_by_codes (width q p) ps (figures q t) in
-    let d = turned_on ms ms' r r' (count_of ps) (codes_at q (width q p) p t) (length t) s h n w turned keeps es fn (lc ∙ sym ew) (omega arith) marked in (
+    let d = turned_on ms ms' r r' (count_of ps) (codes_at q (width q p) p t) (length t) s h n (width q p) turned keeps es fn lc (omega arith) marked in (
       record {
         from_one = k.from_one;
         to_length = k.to_length;

@@ -14,11 +14,21 @@ use Rattle.rows.specs.LampRings.{answers}
 use Rattle.finder.specs.Recent.{rings_at}
 use Rattle.finder.specs.History.{History, loaded, cleared, stepped, ran, last_step}
 use Rattle.finder.specs.History.{Answered, Played, BestOf, LampList, LampOf}
+use Rattle.finder.specs.declared.slot.Lengths.{Lengths}
 use Rattle.finder.specs.declared.slot.Slot.{Slot}
 
 -- how many marks the row has: as many figures as matter
 abbrev pub width : ℕ → List ℕ → ℕ
 width q phrase = 2 * (length phrase + 1 - q)
+
+-- the length of the phrase that a slot keeps, and of its figures: 0 in an empty slot
+abbrev pub length_of : Option Lengths → ℕ
+length_of None = 0
+length_of (Some l) = l.phrase
+
+abbrev pub figure_of : Option Lengths → ℕ
+figure_of None = 0
+figure_of (Some l) = l.figure
 
 -- memory of the reader and marks of the row after the take t
 pub record Tracks (q : ℕ) (phrase t : List ℕ) (m : Memory) (ms : List Mark) : Type 0 where
@@ -32,8 +42,8 @@ module _ {S R M : Type 0} (sound : S → ℕ) (memory : R → Memory) (marks : M
   -- the slot s is what the history h makes of a new one. Free are only what the reader, the row and the lamp's ring
   -- keep beside their meaning
   pub record Represents (s : Slot S R M) (h : History S) : Type 0 where
-    pub size : s.m ≡ length h.phrase
-    pub figure : s.q ≡ h.q
+    pub size : length_of s.lengths ≡ length h.phrase
+    pub figure : figure_of s.lengths ≡ h.q
     pub count : s.count ≡ length h.take
     pub last : s.last ≡ last_step h.take
     pub best : BestOf sound h s.best

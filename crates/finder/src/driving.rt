@@ -1,18 +1,19 @@
-ghost use Rattle.std.specs.Prelude.{◌≡◌, ◌+◌, ◌-◌, ◌*◌, ◌<◌, ◌≤◌, [], map, length, take};
+ghost use Rattle.std.specs.Prelude.{◌≡◌, ◌+◌, ◌-◌, ◌*◌, ◌<◌, ◌≤◌, [], map, length};
 ghost use Rattle.terms.specs.Limits.{longest_phrase, longest_take};
 ghost use Rattle.readers.specs.Memory.{nothing};
 ghost use Rattle.finder.specs.History.{unloaded};
 ghost use Rattle.finder.specs.Slots.{Represents, LoadTold, StepTold, RunTold, ClearTold};
-ghost use Rattle.finder.specs.Turns.{ReadsOff, Begun, StartedOver, PlayTold, PlayAtTold, PlayAllTold, Judged};
+ghost use Rattle.finder.specs.Turns.{ReadsOff, Begun, StartedOver, PlayTold, PlayAllTold, Judged};
 
 use crate::recent::Recent;
-use crate::slot::Slot;
-use crate::turning::{better, forget_end, gap_of, listen, start_of, turn};
+use crate::slot::{Lengths, Slot};
+use crate::turning::{gap_of, listen, start_of, turn};
+use arrayvec::ArrayVec;
 use readers::reader::Reader;
 use rows::lamp_ring::LampRing;
 use rows::row::Row;
 use steps::step::Step;
-use terms::answer::Answer;
+use terms::answer::{Answer, BestStretch};
 use terms::limits::{LONGEST_PHRASE, LONGEST_TAKE};
 use terms::refusal::Refusal;
 
@@ -29,12 +30,12 @@ impl<S: Step, R: Reader, M: Row> Slot<S, R, M> {
         requires { (R.Reader.memory reader ≡ nothing) × (M.Row.marks row ≡ []) }
         ensures { Represents S.Step.sound R.Reader.memory M.Row.marks result unloaded }
     {
+        let recent = Recent::for_codes(&reader);
         Slot {
             reader,
             row,
-            recent: Recent::new(),
-            m: 0,
-            q: 0,
+            recent,
+            lengths: None,
             count: 0,
             last: None,
             best: None,
@@ -42,23 +43,22 @@ impl<S: Step, R: Reader, M: Row> Slot<S, R, M> {
         }
     }
 
-    // Puts in a phrase and starts an empty take. A phrase that does not fit the table of sounds is turned away here, as
-    // the reader would; all else is for the reader to judge.
+    // Puts in a phrase and starts an empty take. A phrase that is too long for the vector of sounds is turned away here,
+    // as the reader would; all else is for the reader to judge.
     pub(crate) fn load(&mut self, phrase: &[S], q: usize) -> Result<(), Refusal>
         ensures { LoadTold S.Step.sound R.Reader.memory M.Row.marks
-            (R.Reader.reaches S.Step.sounds) S.Step.sounds
+            (R.Reader.reaches S.Step.SOUNDS) S.Step.SOUNDS
             self.old phrase.now q result self.new }
     {
-        let m = phrase.len();
-        if m > LONGEST_PHRASE {
+        if phrase.len() > LONGEST_PHRASE {
             return Err(Refusal::LongPhrase);
         }
         let sounds = sounds_of(phrase);
-        self.reader.load(&sounds[0..m], q, S::sound_count())?;
-        self.recent = Recent::for_codes(&self.reader);
-        self.m = m;
-        self.q = q;
-        self.begin();
+        self.reader.load(sounds.as_slice(), q, S::SOUNDS)?;
+        self.begin(Lengths {
+            phrase: phrase.len(),
+            figure: q,
+        });
         Ok(())
     }
 
@@ -67,39 +67,33 @@ impl<S: Step, R: Reader, M: Row> Slot<S, R, M> {
         ensures { ClearTold S.Step.sound R.Reader.memory M.Row.marks
             self.old self.new }
     {
-        if self.m > 0 {
-            self.start_over();
+        if let Some(lengths) = self.lengths {
+            self.start_over(lengths);
         }
     }
 
     // The same phrase, with nothing heard.
-    fn start_over(&mut self)
+    #[tactic(auto, using(crate::proofs::Starts::started_over))]
+    fn start_over(&mut self, lengths: Lengths)
         ensures { StartedOver S.Step.sound R.Reader.memory M.Row.marks
-            self.old self.new }
+            self.old lengths self.new }
     {
-        forget_end(&mut self.reader);
-        self.recent.clear();
-        self.begin();
+        self.reader.forget();
+        self.begin(lengths);
     }
 
-    // A new take: a row of +1 alone, and no step, answer or best.
-    fn begin(&mut self)
+    // A new take on a phrase of these lengths: rings without steps, a row of +1 alone, and no step, answer or best.
+    fn begin(&mut self, lengths: Lengths)
         ensures { Begun S.Step.sound R.Reader.memory M.Row.marks
-            self.old self.new }
+            self.old lengths self.new }
     {
-        let w = self.width();
-        let _ = self.row.start(w);
+        self.recent = Recent::for_codes(&self.reader);
+        let _ = self.row.start(lengths.width());
+        self.lengths = Some(lengths);
         self.count = 0;
         self.last = None;
         self.best = None;
         self.lamp = LampRing::new();
-    }
-
-    // How many marks the row has: twice the figures of the phrase.
-    fn width(&self) -> usize
-        ensures { result ≡ 2 * (self.now.m - self.now.q + 1) }
-    {
-        2 * (self.m - self.q + 1)
     }
 
     // One step more, and the answer to it.
@@ -107,40 +101,37 @@ impl<S: Step, R: Reader, M: Row> Slot<S, R, M> {
         ensures { StepTold S.Step.sound R.Reader.memory M.Row.marks
             self.old x result self.new }
     {
-        if self.m == 0 {
-            return Err(Refusal::EmptySlot);
-        }
+        let lengths = self.lengths.ok_or(Refusal::EmptySlot)?;
         if self.count >= LONGEST_TAKE {
             return Err(Refusal::FullTake);
         }
-        Ok(self.play(x))
+        Ok(self.play(x, lengths))
     }
 
     // A step that is not refused.
-    fn play(&mut self, x: S) -> Answer
-        requires { (self.old.count < longest_take) × (0 < self.old.q) }
+    fn play(&mut self, x: S, lengths: Lengths) -> Answer
+        requires { (self.old.count < longest_take) × (self.old.lengths ≡ Some lengths) }
         ensures { PlayTold S.Step.sound R.Reader.memory M.Row.marks
             self.old x result self.new }
     {
-        let (h, wanted) = listen(&mut self.reader, x);
-        let w = self.width();
+        let heard = listen(&mut self.reader, x);
         self.count += 1;
-        turn(&mut self.row, &mut self.recent, self.count, h, wanted, w);
+        turn(&mut self.row, &mut self.recent, self.count, heard);
         self.last = Some(x);
-        let a = self.answer();
-        self.best = Some(better(self.best, a));
+        let a = self.answer(lengths);
+        self.best = Some(BestStretch::better(self.best, a));
         self.lamp.add(a.gap, a.step);
         a
     }
 
     // The answer that the row gives.
-    fn answer(&self) -> Answer
-        ensures { ReadsOff self.now.m self.now.q self.now.count
+    fn answer(&self, lengths: Lengths) -> Answer
+        ensures { ReadsOff lengths.phrase lengths.figure self.now.count
             (M.Row.marks self.now.row) result }
     {
         let (least, span) = self.row.least();
-        let gap = gap_of(self.m - self.q + 1, least);
-        let start = start_of(self.count, self.q, span);
+        let gap = gap_of(lengths.figures(), least);
+        let start = start_of(self.count, lengths.figure, span);
         Answer {
             step: self.count,
             gap,
@@ -154,59 +145,48 @@ impl<S: Step, R: Reader, M: Row> Slot<S, R, M> {
             self.old steps.now records.old result
             self.new records.new }
     {
-        if let Some(e) = self.run_refused(steps.len(), records.len()) {
-            return Err(e);
-        }
-        self.play_all(steps, records);
+        let lengths = self.check_run(steps.len(), records.len())?;
+        self.play_all(steps, records, lengths);
         Ok(())
     }
 
-    // Why a run of so many steps, with so many records, is turned away.
-    fn run_refused(&self, steps: usize, records: usize) -> Option<Refusal>
-        ensures { Judged self.now.m self.now.count steps records result }
+    // Whether a run of so many steps, with so many records, is turned away; the slot's lengths where it is not.
+    fn check_run(&self, steps: usize, records: usize) -> Result<Lengths, Refusal>
+        ensures { Judged self.now.lengths self.now.count steps records result }
     {
         if steps != records {
-            return Some(Refusal::UnevenLists);
+            return Err(Refusal::UnevenLists);
         }
-        if self.m == 0 {
-            return Some(Refusal::EmptySlot);
-        }
+        let lengths = self.lengths.ok_or(Refusal::EmptySlot)?;
         if steps > (LONGEST_TAKE - self.count) as usize {
-            return Some(Refusal::FullTake);
+            return Err(Refusal::FullTake);
         }
-        None
+        Ok(lengths)
     }
 
     // A run that is not refused.
-    fn play_all(&mut self, steps: &[S], records: &mut [Answer])
-        requires { (length steps.now ≡ length records.old) × ((0 < self.old.q) × (self.old.count + length steps.now ≤ longest_take)) }
+    #[tactic(auto, using(crate::proofs::Playing::run_none, crate::proofs::Playing::run_more, crate::proofs::Playing::run_done))]
+    fn play_all(&mut self, steps: &[S], records: &mut [Answer], lengths: Lengths)
+        requires even { length steps.now ≡ length records.old }
+        requires loaded { self.old.lengths ≡ Some lengths }
+        requires room { self.old.count + length steps.now ≤ longest_take }
         ensures { PlayAllTold S.Step.sound R.Reader.memory M.Row.marks
             self.old steps.now self.new records.new }
     {
-        for i in 0..steps.len() {
-            self.play_at(steps, i, records);
+        for (i, x) in steps.iter().enumerate() {
+            records[i] = self.play(*x, lengths);
         }
-    }
-
-    // The step at i, with its record.
-    fn play_at(&mut self, steps: &[S], i: usize, records: &mut [Answer])
-        requires { (i < length steps.now) × ((i < length records.old) × ((0 < self.old.q) × (self.old.count < longest_take))) }
-        ensures { PlayAtTold S.Step.sound R.Reader.memory M.Row.marks
-            self.old steps.now i records.old
-            self.new records.new }
-    {
-        records[i] = self.play(steps[i]);
     }
 }
 
-// The sounds of a phrase, at the front of a table.
-fn sounds_of<S: Step>(phrase: &[S]) -> [u32; LONGEST_PHRASE]
+// The sounds of a phrase that fits.
+fn sounds_of<S: Step>(phrase: &[S]) -> ArrayVec<u32, LONGEST_PHRASE>
     requires { length phrase.now ≤ longest_phrase }
-    ensures { take (length phrase.now) result ≡ map S.Step.sound phrase.now }
+    ensures { result.items ≡ map S.Step.sound phrase.now }
 {
-    let mut sounds = [0; LONGEST_PHRASE];
-    for i in 0..phrase.len() {
-        sounds[i] = phrase[i].sound();
+    let mut sounds = ArrayVec::new();
+    for x in phrase {
+        sounds.push(x.sound());
     }
     sounds
 }

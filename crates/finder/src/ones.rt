@@ -3,8 +3,7 @@ ghost use Rattle.finder.specs.Ones.{Ones};
 use steps::step::Step;
 
 // What is told of a take is one thing only.
-pub fn one_answer<S: Step>() -> u8
+#[tactic(auto, using(crate::proofs::One::ones))]
+pub fn one_answer<S: Step>()
     ensures { Ones S.Step.sound }
-{
-    0
-}
+{}

@@ -1,91 +1,75 @@
 ghost use Rattle.std.specs.Prelude.{◌≡◌, ◌<◌, ◌≤◌};
 ghost use Rattle.terms.specs.Limits.{longest_phrase};
 ghost use Rattle.readers.specs.Memory.{counted};
-ghost use Rattle.finder.specs.Recent.{before, laid, emptied, wrap, age_below};
-ghost use Rattle.finder.specs.Turns.{Noted, no_rings};
+ghost use Rattle.finder.specs.Recent.{before, laid, wrap, age_at};
+ghost use Rattle.finder.specs.Turns.{Noted};
 
+use crate::turning::Heard;
 use readers::reader::Reader;
 use terms::limits::LONGEST_PHRASE;
 
-const BEGINNINGS: usize = LONGEST_PHRASE + 1;
+// Where the ring of a code begins among the steps, and which of its places is written next.
+#[derive(Clone, Copy)]
+pub struct Ring {
+    pub(crate) first: usize,
+    pub(crate) next: usize,
+}
 
 // For each code the numbers of the last steps at which it was heard, as many as its figure stands in the phrase, as a
-// ring. The rings lie one after another; that of the code h begins at first[h - 1], and goes on at next[h - 1].
+// ring. The rings lie one after another among the steps, in the order of the codes, which begin at 1.
+// Steps count from 1, and 0 is none: an Option for each would take twice the room and say no more.
 #[derive(Drop)]
 pub struct Recent {
     pub(crate) steps: [u32; LONGEST_PHRASE],
-    pub(crate) first: [u8; BEGINNINGS],
-    pub(crate) next: [usize; LONGEST_PHRASE],
+    pub(crate) rings: [Ring; LONGEST_PHRASE],
 }
 
 impl Recent {
-    // No rings.
-    pub(crate) fn new() -> Recent
-        ensures { result ≡ no_rings }
-    {
-        Recent {
-            steps: [0; LONGEST_PHRASE],
-            first: [0; BEGINNINGS],
-            next: [0; LONGEST_PHRASE],
-        }
-    }
-
-    // Rings for the codes of the phrase that a reader holds.
+    // Rings without steps, for the codes of the phrase that a reader holds.
     pub(crate) fn for_codes<R: Reader>(reader: &R) -> Recent
-        requires { before (counted (R.Reader.memory reader.now)) longest_phrase ≤ longest_phrase }
-        ensures { result ≡ laid (counted (R.Reader.memory reader.now)) }
+        ensures { before (counted (R.Reader.memory reader.now)) longest_phrase ≤ longest_phrase
+            → result ≡ laid (counted (R.Reader.memory reader.now)) }
     {
-        let mut first: [u8; BEGINNINGS] = [0; BEGINNINGS];
-        for code in 1..BEGINNINGS {
-            first[code] = first[code - 1] + reader.count(code) as u8;
+        let mut rings = [Ring { first: 0, next: 0 }; LONGEST_PHRASE];
+        let mut first = 0_usize;
+        for (i, ring) in rings.iter_mut().enumerate() {
+            *ring = Ring { first, next: 0 };
+            first = first.saturating_add(reader.count(i + 1));
         }
         Recent {
             steps: [0; LONGEST_PHRASE],
-            first,
-            next: [0; LONGEST_PHRASE],
+            rings,
         }
     }
 
-    // Forgets all steps, and keeps the rings.
-    pub(crate) fn clear(&mut self)
-        ensures { self.new ≡ emptied self.old }
+    // Notes a step with the code heard, and answers the age of the step that gives way to it, where there is one.
+    pub(crate) fn note(&mut self, step: u32, heard: Heard) -> Option<usize>
+        ensures { Noted self.old step heard.code heard.wanted result self.new }
     {
-        self.steps = [0; LONGEST_PHRASE];
-        self.next = [0; LONGEST_PHRASE];
-    }
-
-    // Notes a step with the code h, and answers the age of the step that gives way to it, where that is below w.
-    pub(crate) fn note(&mut self, step: u32, h: usize, wanted: usize, w: usize) -> Option<usize>
-        requires { (0 < h) × ((h ≤ longest_phrase) × (wanted ≤ longest_phrase)) }
-        ensures { Noted self.old step h wanted w result self.new }
-    {
-        let p = wrapped(self.next[h - 1], wanted);
-        let place = self.first[h - 1] as usize + p;
-        if place >= LONGEST_PHRASE {
-            return None;
-        }
-        let old = self.steps[place];
+        let i = heard.code.checked_sub(1)?;
+        let ring = *self.rings.get(i)?;
+        let p = wrapped(ring.next, heard.wanted);
+        let place = ring.first.saturating_add(p);
+        let old = *self.steps.get(place)?;
         self.steps[place] = step;
-        self.next[h - 1] = p + 1;
-        age_of(step, old, w)
+        self.rings[i].next = p + 1;
+        age_of(step, old)
     }
 }
 
 // The place to write at in a ring of n places.
 fn wrapped(at: usize, n: usize) -> usize
-    ensures exact { result ≡ wrap at n }
-    ensures small { result ≤ n }
+    ensures { result ≡ wrap at n }
 {
     if at < n { at } else { 0 }
 }
 
-// The age of the step `old`, where there is one and its age is below w.
-fn age_of(step: u32, old: u32, w: usize) -> Option<usize>
-    ensures { result ≡ age_below w step old }
+// The age of the step `old`, where there is one.
+fn age_of(step: u32, old: u32) -> Option<usize>
+    ensures { result ≡ age_at step old }
 {
-    if old == 0 || step < old {
+    if old == 0 {
         return None;
     }
-    let age = (step - old) as usize;
-    if age < w { Some(age) } else { None }
+    step.checked_sub(old).map(|age| age as usize)
 }

@@ -33,7 +33,7 @@ impl<S: Step, R: Reader, M: Row> Rolling<S, R, M> {
     // Puts in a phrase with its figure length, and starts an empty take.
     pub fn load(&mut self, phrase: &[S], q: usize) -> Result<(), Refusal>
         ensures { LoadTold S.Step.sound R.Reader.memory M.Row.marks
-            (R.Reader.reaches S.Step.sounds) S.Step.sounds
+            (R.Reader.reaches S.Step.SOUNDS) S.Step.SOUNDS
             self.old.slot phrase.now q result self.new.slot }
     {
         self.slot.load(phrase, q)
@@ -64,7 +64,7 @@ impl<S: Step, R: Reader, M: Row> Rolling<S, R, M> {
         self.slot.clear()
     }
 
-    // The last accepted step.
+    // The last accepted step. It and the lamp stand on both types: a trait for the two would be an import for callers.
     pub fn last(&self) -> Option<S>
         ensures { LastTold S.Step.sound R.Reader.memory M.Row.marks self.now.slot result }
     {

@@ -1,4 +1,3 @@
-ghost use Rattle.rows.specs.LampRings.{answers, LampShows};
 ghost use Rattle.finder.specs.Slots.{LampTold, LastTold};
 ghost use Rattle.finder.specs.Views.{ViewTold, CutTold, Pasted};
 
@@ -10,15 +9,9 @@ use terms::refusal::Refusal;
 
 impl<S: Step, R: Reader, M: Row> Slot<S, R, M> {
     // The least gap of the newest answers, with its earliest step.
+    #[tactic(auto, using(crate::proofs::Shown::lamp_told))]
     pub(crate) fn lamp(&self) -> Option<(u32, u32)>
         ensures { LampTold S.Step.sound R.Reader.memory M.Row.marks self.now result }
-    {
-        self.lamp_shows()
-    }
-
-    // What the lamp's ring shows.
-    fn lamp_shows(&self) -> Option<(u32, u32)>
-        ensures { LampShows (answers self.now.lamp) result }
     {
         self.lamp.lamp()
     }
@@ -31,6 +24,7 @@ impl<S: Step, R: Reader, M: Row> Slot<S, R, M> {
     }
 
     // The best stretch as a part of the list, which has the steps of the take, and its place there.
+    #[tactic(auto, using(crate::proofs::Shown::view_told))]
     pub(crate) fn view<'a>(&self, list: &'a [S]) -> Result<(&'a [S], usize), Refusal>
         ensures { ViewTold S.Step.sound R.Reader.memory M.Row.marks
             self.now list.now result }
@@ -38,25 +32,19 @@ impl<S: Step, R: Reader, M: Row> Slot<S, R, M> {
         if list.len() != self.count as usize {
             return Err(Refusal::OtherLength);
         }
-        match self.best {
-            None => Err(Refusal::NoBest),
-            Some(b) => {
-                let from = (b.start - 1) as usize;
-                let end = b.end as usize;
-                Ok((&list[from..end], from))
-            }
-        }
+        let best = self.best.ok_or(Refusal::NoBest)?;
+        let from = (best.start - 1) as usize;
+        Ok((&list[from..best.end as usize], from))
     }
 
     // Copies that part to the front of the pattern, and answers its length.
+    #[tactic(auto, using(crate::proofs::Cutting::cut_told))]
     pub(crate) fn cut(&self, list: &[S], pattern: &mut [S]) -> Result<usize, Refusal>
         ensures { CutTold S.Step.sound R.Reader.memory M.Row.marks
             self.now list.now pattern.old result pattern.new }
     {
-        match self.view(list) {
-            Ok((part, _)) => paste(part, pattern),
-            Err(e) => Err(e),
-        }
+        let (part, _) = self.view(list)?;
+        paste(part, pattern)
     }
 }
 
@@ -65,9 +53,9 @@ fn paste<S: Copy>(part: &[S], pattern: &mut [S]) -> Result<usize, Refusal>
     ensures { Pasted part.now pattern.old result pattern.new }
 {
     let n = part.len();
-    if pattern.len() < n {
-        return Err(Refusal::ShortPattern);
-    }
-    pattern[0..n].copy_from_slice(part);
+    let (front, _) = pattern
+        .split_at_mut_checked(n)
+        .ok_or(Refusal::ShortPattern)?;
+    front.copy_from_slice(part);
     Ok(n)
 }

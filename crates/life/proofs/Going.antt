@@ -1,34 +1,31 @@
 -- One call after another: what holds after some of them, and at the end.
-use Rattle.std.proofs.Common.{◌≡◌, ℕ, ◌+◌, ◌-◌, ◌<◌, ◌≤◌, ◌⊎◌, List, ◌++◌, length, get_or, take, drop, set, sym, refl, ap, ◌∙◌, subst, inl, inr, ⊎_elim, append_assoc, arith}
+use Rattle.std.proofs.Common.{◌≡◌, ℕ, ◌+◌, ◌-◌, ◌<◌, ◌≤◌, ◌⊎◌, List, ◌++◌, length, get_or, take, drop, set, min, Ok, Err, sym, refl, ap, ◌∙◌, subst, inl, inr, ⊎_elim, append_assoc, arith}
 use borrow.Rule.Slice.PartMut.{put_mid}
-use Rattle.std.proofs.lemmas.List.{take_at, drop_at, take_more, take_more_set, take-set-le, take-append-drop, drop-set-lt, drop-drop, drop-append-le, length-append, length-take-le, length-set, length-drop}
+use Rattle.std.proofs.lemmas.List.{take_at, drop_at, get_or-take, get_or_read_under, take_more, take_more_set, take-set-le, take-append-drop, drop-set-lt, drop-drop, drop-append-le, length-append, length-take-le, length-set, length-drop}
 use Rattle.std.proofs.lemmas.Bool.{cases_lt}
 use Rattle.terms.specs.declared.answer.Answer.{Answer}
 use Rattle.readers.specs.Memory.{Memory}
 use Rattle.rows.specs.declared.mark.Mark.{Mark}
 use Rattle.finder.specs.History.{unloaded}
-use Rattle.life.specs.Readings.{given, used, records_used_lem}
+use Rattle.life.specs.Readings.{Event, given, used, records_used_lem}
 use Rattle.life.specs.Outcomes.{Stage, rolling, Life, new, more}
 use Rattle.life.specs.Promises.{Stands, MakeTold, PerformTold}
 use Rattle.life.specs.declared.calls.Call.{Call}
 use Rattle.life.specs.declared.calls.Call.TheVariants.{Clear}
-use Rattle.life.specs.declared.calls.Event.{Event}
-use Rattle.life.specs.declared.calls.Event.TheVariants.{Loaded, Answered, Ran, Cleared, Closed, Reopened}
-use Rattle.life.specs.declared.calls.Event.TheVariants.{Refused, OutOfPlace}
+use Rattle.life.specs.declared.calls.Done.TheVariants.{Loaded, Answered, Ran, Cleared, Closed, Reopened}
 use Rattle.life.specs.declared.calls.Take.{Take}
 use Rattle.life.proofs.Growing.{LawOf, grown}
 use Rattle.life.proofs.Obeying.{outcome_records, life_even, life_records, life_law}
 use Rattle.life.proofs.Standing.{life_stage}
 
 used_le : (n : ℕ) (e : Event) → used n e ≤ n
-used_le n Loaded = omega arith
-used_le n (Answered a) = omega arith
-used_le n Ran = omega arith
-used_le n Cleared = omega arith
-used_le n (Closed o) = omega arith
-used_le n Reopened = omega arith
-used_le n (Refused e) = omega arith
-used_le n OutOfPlace = omega arith
+used_le n (Ok Loaded) = omega arith
+used_le n (Ok (Answered a)) = omega arith
+used_le n (Ok Ran) = omega arith
+used_le n (Ok Cleared) = omega arith
+used_le n (Ok (Closed o)) = omega arith
+used_le n (Ok Reopened) = omega arith
+used_le n (Err t) = omega arith
 
 -- a part of a list, of which the front is written over by bs
 module _ {A : Type 0} (a n : ℕ) (ts bs : List A) (within : a + n ≤ length ts) (fits : length bs ≤ n) where
@@ -89,9 +86,24 @@ module _ {S R M : Type 0} (sound : S → ℕ) (memory : R → Memory) (marks : M
     pub records_behind : drop recorded ts ≡ drop recorded rs
     pub room : (i : ℕ) → i < made → records_used_lem (take i calls) (take i fs) + given (get_or calls i Clear) ≤ length ts
 
-  pub begun : (calls : List (Call S)) (es : List Event) (rs : List Answer) (t : Take S R M)
-      → Stands sound memory marks t (rolling unloaded) → Going calls es rs t 0 0 es rs
-  begun calls es rs t st = record {
+-- the call of a turn, which goes over the calls for which there is room
+call_of : {S : Type 0} (calls : List (Call S)) {made room : ℕ} {k : Call S} → room ≤ length calls
+    → made < length (take room calls) → k ≡ get_or (take room calls) made k
+    → (made < length calls) × (made < room) × (k ≡ get_or calls made Clear)
+call_of calls {made} {room} {k} le lt same =
+    let long = length-take-le room calls le in
+    let below : made < room = omega arith in
+    let here : made < length calls = omega arith in (
+      here,
+      below,
+      get_or_read_under calls made (length calls) k Clear
+          (same ∙ get_or-take room calls made k below) here refl,
+    )
+
+module _ {S R M : Type 0} {sound : S → ℕ} {memory : R → Memory} {marks : M → List Mark} {reach c : ℕ} where
+  pub begun : {calls : List (Call S)} {es : List Event} {rs : List Answer} {t : Take S R M}
+      → Stands sound memory marks t (rolling unloaded) → Going sound memory marks reach c calls es rs t 0 0 es rs
+  begun st = record {
     stage = rolling unloaded;
     life = new;
     stands = st;
@@ -104,18 +116,18 @@ module _ {S R M : Type 0} (sound : S → ℕ) (memory : R → Memory) (marks : M
   }
 
   used_up : {calls : List (Call S)} {es : List Event} {rs : List Answer} {t : Take S R M} {made recorded : ℕ}
-      {fs : List Event} {ts : List Answer} → Going calls es rs t made recorded fs ts
+      {fs : List Event} {ts : List Answer} → Going sound memory marks reach c calls es rs t made recorded fs ts
       → recorded ≡ records_used_lem (take made calls) (take made fs)
   used_up {recorded = recorded} {ts = ts} go =
       sym (length-take-le recorded ts go.of_records) ∙ life_records sound reach c go.life
 
   -- one call more
-  pub one_more : (calls : List (Call S)) (es : List Event) (rs : List Answer) (t : Take S R M) (made recorded : ℕ)
-      (fs : List Event) (ts : List Answer) → Going calls es rs t made recorded fs ts
+  one_more : (calls : List (Call S)) (es : List Event) (rs : List Answer) (t : Take S R M) (made recorded : ℕ)
+      (fs : List Event) (ts : List Answer) → Going sound memory marks reach c calls es rs t made recorded fs ts
       → (n : ℕ) (v : Take S R M) (e : Event) (after : List Answer)
       → made < length calls → made < length fs → n ≡ given (get_or calls made Clear) → recorded + n ≤ length ts
       → MakeTold sound memory marks reach c t (get_or calls made Clear) (take n (drop recorded ts)) (v, e) after
-      → Going calls es rs v (made + 1) (recorded + used n e) (set fs made e) (put_mid recorded n ts after)
+      → Going sound memory marks reach c calls es rs v (made + 1) (recorded + used n e) (set fs made e) (put_mid recorded n ts after)
   one_more calls es rs t made recorded fs ts go n v e after in_calls in_events lent fits told =
       let d = told.exact go.stage go.stands in
       let bs = d.1 in
@@ -161,28 +173,35 @@ module _ {S R M : Type 0} (sound : S → ℕ) (memory : R → Memory) (marks : M
       }
 
   -- the same, as the code has it
-  pub one_call : (calls : List (Call S)) (es : List Event) (rs : List Answer) (t : Take S R M) (made recorded : ℕ)
-      (fs : List Event) (ts : List Answer) → Going calls es rs t made recorded fs ts
-      → (n w u : ℕ) (k : Call S) (v : Take S R M) (e : Event) (after : List Answer)
-      → made < length calls → made < length fs → n ≡ given k → recorded + n ≤ length ts
-      → k ≡ get_or calls made Clear → w ≡ n → u ≡ used w e
-      → MakeTold sound memory marks reach c t k (take w (drop recorded ts)) (v, e) after
-      → Going calls es rs v (made + 1) (recorded + u) (set fs made e) (put_mid recorded w ts after)
-  one_call calls es rs t made recorded fs ts go n w u k v e after l l' lent fits same_call same_n same_u told =
+  pub one_call : {calls : List (Call S)} {es : List Event} {rs : List Answer} {t : Take S R M} {made recorded : ℕ}
+      {fs : List Event} {ts : List Answer} {room n u : ℕ} {k : Call S} {v : Take S R M} {e : Event}
+      {after : List Answer} → Going sound memory marks reach c calls es rs t made recorded fs ts
+      → room ≤ length calls → room ≤ length fs → made < length (take room calls)
+      → k ≡ get_or (take room calls) made k → n ≡ given k → n ≤ length ts - recorded → u ≡ used (given k) e
+      → MakeTold sound memory marks reach c t k (take (recorded + n - recorded) (drop recorded ts)) (v, e) after
+      → Going sound memory marks reach c calls es rs v (made + 1) (recorded + u) (set fs made e)
+      (put_mid recorded (recorded + n - recorded) ts after)
+  one_call {calls} {es} {rs} {t} {made} {recorded} {fs} {ts} {room} {n} {u} {k} {v} {e} {after}
+      go le le' lt is lent fits up told =
+      let at = call_of calls le lt is in
+      let same_n : recorded + n - recorded ≡ n = omega arith in
+      let in_events : made < length fs = omega (arith, at.1) in
+      let in_records : recorded + n ≤ length ts = omega (arith, go.of_records) in
       subst (λ (p : ℕ × ℕ).
-      Going calls es rs v (made + 1) (recorded + p.0) (set fs made e) (put_mid recorded p.1 ts after))
-      (λ i. (sym (same_u ∙ ap (λ m. used m e) same_n) i, sym same_n i))
-      (one_more calls es rs t made recorded fs ts go n v e after l l' (lent ∙ ap given same_call) fits
+      Going sound memory marks reach c calls es rs v (made + 1) (recorded + p.0) (set fs made e)
+      (put_mid recorded p.1 ts after))
+      (λ i. (sym (up ∙ ap (λ m. used m e) (sym lent)) i, sym same_n i))
+      (one_more calls es rs t made recorded fs ts go n v e after at.0 in_events (lent ∙ ap given at.2) in_records
       (subst (λ (p : Call S × ℕ).
       MakeTold sound memory marks reach c t p.0 (take p.1 (drop recorded ts)) (v, e) after)
-      (λ i. (same_call i, same_n i)) told))
+      (λ i. (at.2 i, same_n i)) told))
 
   -- the end
-  pub ended : (calls : List (Call S)) (es : List Event) (rs : List Answer) (t : Take S R M) (made recorded : ℕ)
-      (fs : List Event) (ts : List Answer) → Going calls es rs t made recorded fs ts
+  ended : {calls : List (Call S)} {es : List Event} {rs : List Answer} {t : Take S R M} {made recorded : ℕ}
+      {fs : List Event} {ts : List Answer} → Going sound memory marks reach c calls es rs t made recorded fs ts
       → (made < length calls → (length fs ≤ made) ⊎ (length ts - recorded < given (get_or calls made Clear)))
       → PerformTold sound memory marks reach c calls es rs (record { take = t; made = made; recorded = recorded }) fs ts
-  ended calls es rs t made recorded fs ts go stop =
+  ended {calls} {es} {rs} {t} {made} {recorded} {fs} {ts} go stop =
       let life = go.life in
       let is = life_stage sound reach c life in
       let n : length (take made calls) ≡ made = length-take-le made calls go.of_calls in
@@ -205,3 +224,28 @@ module _ {S R M : Type 0} (sound : S → ℕ) (memory : R → Memory) (marks : M
         stopped = λ l. ⊎_elim (λ a. inl a) (λ b. inr (omega (arith, go.of_records))) (stop l);
         room = go.room;
       }
+
+  -- for want of room for a run's records
+  pub stopped : {calls : List (Call S)} {es : List Event} {rs : List Answer} {t : Take S R M} {made recorded : ℕ}
+      {fs : List Event} {ts : List Answer} {room n : ℕ} {k : Call S}
+      → Going sound memory marks reach c calls es rs t made recorded fs ts
+      → room ≤ length calls → made < length (take room calls) → k ≡ get_or (take room calls) made k
+      → n ≡ given k → length ts - recorded < n
+      → PerformTold sound memory marks reach c calls es rs (record { take = t; made = made; recorded = recorded }) fs ts
+  stopped {calls = calls} go le lt is lent short =
+      let at = call_of calls le lt is in
+      let same = lent ∙ ap given at.2 in
+      ended go (λ l. inr (omega (arith, same)))
+
+  -- or as all are made for which there are calls and events
+  pub all_made : {calls : List (Call S)} {es : List Event} {rs : List Answer} {t : Take S R M} {made recorded : ℕ}
+      {fs : List Event} {ts : List Answer} {room : ℕ}
+      → Going sound memory marks reach c calls es rs t made recorded fs ts
+      → room ≡ min (length calls) (length fs) → length (take room calls) ≤ made → made ≤ length (take room calls)
+      → PerformTold sound memory marks reach c calls es rs (record { take = t; made = room; recorded = recorded }) fs ts
+  all_made {calls} {es} {rs} {t} {made} {recorded} {fs} {ts} {room} go is ge le =
+      let within : room ≤ length calls = omega arith in
+      let long = length-take-le room calls within in
+      let same : made ≡ room = omega arith in
+      ended (subst (λ m. Going sound memory marks reach c calls es rs t m recorded fs ts) same go)
+      (λ l. inl (omega arith))

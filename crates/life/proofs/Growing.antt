@@ -1,18 +1,17 @@
 -- The law of the calls stands when the lists grow.
-use Rattle.std.proofs.Common.{◌≡◌, ℕ, zero, suc, ◌+◌, ◌<◌, ◌≤◌, Bool, List, [], ◌∷◌, ◌++◌, length, get_or, take, drop, sym, ap, ◌∙◌, subst, arith}
+use Rattle.std.proofs.Common.{◌≡◌, ℕ, zero, suc, ◌+◌, ◌<◌, ◌≤◌, Bool, List, [], ◌∷◌, ◌++◌, length, get_or, take, drop, Err, sym, ap, ◌∙◌, subst, arith}
 use Rattle.std.proofs.lemmas.List.{take-append-le, drop-append-le, get_or_append_left, length-drop}
 use Rattle.terms.specs.declared.answer.Answer.{Answer}
 use Rattle.finder.specs.History.{History}
-use Rattle.life.specs.Readings.{history_of, closed_of, given, used, records_used_lem}
+use Rattle.life.specs.Readings.{Event, history_of, closed_of, given, used, records_used_lem}
 use Rattle.life.specs.Laws.{LawAt, own_records}
 use Rattle.life.specs.declared.calls.Call.{Call}
 use Rattle.life.specs.declared.calls.Call.TheVariants.{Clear}
-use Rattle.life.specs.declared.calls.Event.{Event}
-use Rattle.life.specs.declared.calls.Event.TheVariants.{OutOfPlace}
+use Rattle.life.specs.declared.calls.Turned.TheVariants.{OutOfPlace}
 
 -- what call number i uses up is among what all of them do
 pub used_within : {S : Type 0} (ks : List (Call S)) (es : List Event) (i : ℕ) → i < length ks → length ks ≡ length es
-    → records_used_lem (take i ks) (take i es) + used (given (get_or ks i Clear)) (get_or es i OutOfPlace) ≤ records_used_lem ks es
+    → records_used_lem (take i ks) (take i es) + used (given (get_or ks i Clear)) (get_or es i (Err OutOfPlace)) ≤ records_used_lem ks es
 unfolding records_used_lem
 used_within [] es i l h = absurd (omega arith)
 used_within (k ∷ ks) [] i l h = absurd (omega arith)
@@ -35,7 +34,7 @@ module _ {S : Type 0} (sound : S → ℕ) (reach c : ℕ) where
   abbrev pub LawOf : List (Call S) → List Event → List Answer → ℕ → Type 0
   LawOf ks es rs i = LawAt sound reach c
       (history_of (take i ks) (take i es)) (closed_of (take i ks) (take i es))
-      (get_or ks i Clear) (get_or es i OutOfPlace) (own_records sound reach c ks es rs i)
+      (get_or ks i Clear) (get_or es i (Err OutOfPlace)) (own_records sound reach c ks es rs i)
       (history_of (take (i + 1) ks) (take (i + 1) es)) (closed_of (take (i + 1) ks) (take (i + 1) es))
 
   pub moved : {h₁ h₂ : History S} {b₁ b₂ : Bool} {k₁ k₂ : Call S} {e₁ e₂ : Event} {bs₁ bs₂ : List Answer}
@@ -61,10 +60,10 @@ module _ {S : Type 0} (sound : S → ℕ) (reach c : ℕ) where
       let k₁ = sym (take-append-le (i + 1) ks ls le₁) in
       let e₁ = sym (take-append-le (i + 1) es fs le₁') in
       let kᵢ = sym (get_or_append_left ks ls Clear i l) in
-      let eᵢ = sym (get_or_append_left es fs OutOfPlace i l') in
+      let eᵢ = sym (get_or_append_left es fs (Err OutOfPlace) i l') in
       let n = used_within ks es i l h in
       let before = records_used_lem (take i ks) (take i es) in
-      let own = used (given (get_or ks i Clear)) (get_or es i OutOfPlace) in
+      let own = used (given (get_or ks i Clear)) (get_or es i (Err OutOfPlace)) in
       let fits : before + own ≤ length rs = omega arith in
       let part = part_append before own rs ts fits in
       moved (λ j. history_of (k j) (e j)) (λ j. closed_of (k j) (e j)) kᵢ eᵢ

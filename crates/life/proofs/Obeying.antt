@@ -1,7 +1,8 @@
 -- Every life keeps the law.
-use Rattle.std.proofs.Common.{◌≡◌, ℕ, zero, suc, ◌+◌, ◌<◌, ◌≤◌, Bool, true, false, cond, eqb, List, [], ◌∷◌, ◌++◌, map, length, get_or, take, drop, Some, None, Option, sym, refl, ap, ◌∙◌, subst, ⊎_elim, append_assoc, arith}
+use Rattle.std.proofs.Common.{◌≡◌, ℕ, zero, suc, ◌+◌, ◌<◌, ◌≤◌, Bool, true, false, cond, List, [], ◌∷◌, ◌++◌, map, length, get_or, take, drop, Some, None, Option, is_ok, Ok, Err, sym, refl, ap, ◌∙◌, subst, ⊎_elim, append_assoc, arith}
+use Rattle.std.specs.Option.{unwrap_or}
 use Rattle.std.proofs.lemmas.List.{take_at, take_all, drop_at, get_or_push, length-append, length_push}
-use Rattle.std.proofs.lemmas.Bool.{true≢false, eqb-true, cases_lt}
+use Rattle.std.proofs.lemmas.Bool.{true≢false, cases_lt}
 use Rattle.std.proofs.lemmas.Bool.Decides.{nat_tests}
 use Rattle.terms.specs.Refusals.{run_refusal}
 use Rattle.terms.specs.declared.answer.Answer.{Answer}
@@ -9,15 +10,15 @@ use Rattle.terms.specs.declared.answer.BestStretch.{BestStretch}
 use Rattle.terms.specs.declared.refusal.Refusal.{Refusal}
 use Rattle.finder.specs.History.{History, unloaded, ran, Answered, Played, none, BestOf}
 use Rattle.finder.specs.History as at
-use Rattle.life.specs.Readings.{accepted, or_else, closing_of, history_of, closed_of, given, used, records_used_lem, done}
+use Rattle.life.specs.Readings.{Event, closing_of, history_of, closed_of, given, used, records_used_lem, done}
 use Rattle.life.specs.Outcomes.{Stage, rolling, closed, belongs, Outcome, load_accepted, load_refused, step_accepted}
 use Rattle.life.specs.Outcomes.{step_refused, run_accepted, run_refused_lem, clearing, closing, reopening}
 use Rattle.life.specs.Outcomes.{not_closed, not_rolling, Life, new, more}
 use Rattle.life.specs.Laws.{blank, refused_by, Tells, LawAt, Law}
 use Rattle.life.specs.declared.calls.Call.{Call}
 use Rattle.life.specs.declared.calls.Call.TheVariants.{Clear}
-use Rattle.life.specs.declared.calls.Event.{Event}
-use Rattle.life.specs.declared.calls.Event.TheVariants as told
+use Rattle.life.specs.declared.calls.Done.{Done}
+use Rattle.life.specs.declared.calls.Turned.TheVariants.{Refused, OutOfPlace}
 use Rattle.life.proofs.Pushing.{call_by_call_lem, history_push, closed_push, used_push}
 use Rattle.life.proofs.Growing.{LawOf, moved, grown}
 
@@ -31,11 +32,7 @@ shut (closed h) = true
 
 -- a run that is not refused has as many records as steps
 even : (m n k r : ℕ) → run_refusal m n k r ≡ None → k ≡ r
-even m n k r h = go (eqb k r) refl h
-  where
-    go : (b : Bool) → eqb k r ≡ b → run_refusal m n k r ≡ None → k ≡ r
-    go true e h = eqb-true k r e
-    go false e h = grind (arith, nat_tests)
+even m n k r h = grind (arith, nat_tests)
 
 module _ {S : Type 0} (sound : S → ℕ) where
   played_length : {h : History S} {xs : List S} {bs : List Answer} → Played sound h xs bs → length bs ≡ length xs
@@ -63,7 +60,7 @@ module _ {S : Type 0} (sound : S → ℕ) where
 
 module _ {S : Type 0} (sound : S → ℕ) (reach c : ℕ) where
   out_of_place : (h : History S) (b : Bool) (k : Call S) → belongs b k ≡ false
-      → LawAt sound reach c h b k told.OutOfPlace [] h b
+      → LawAt sound reach c h b k (Err OutOfPlace) [] h b
   out_of_place h b k n = record {
     out_of_place = λ _. refl;
     refused = λ r y _. absurd (true≢false (sym y ∙ n));
@@ -76,10 +73,10 @@ module _ {S : Type 0} (sound : S → ℕ) (reach c : ℕ) where
 
   turned_away : (h : History S) (b : Bool) (k : Call S) (r : Refusal)
       → belongs b k ≡ true → refused_by sound reach c h k ≡ Some r
-      → LawAt sound reach c h b k (told.Refused r) [] h b
+      → LawAt sound reach c h b k (Err (Refused r)) [] h b
   turned_away h b k r y n = record {
     out_of_place = λ o. absurd (true≢false (sym y ∙ o));
-    refused = λ r' _ n'. let e : r ≡ r' = cc in ap told.Refused e;
+    refused = λ r' _ n'. let e : r ≡ r' = cc in cc;
     accepts = λ _ n'. let z : ◌≡◌ {A = ℕ} 0 1 = cc in absurd (omega arith);
     only_out_of_place = λ e. let z : ◌≡◌ {A = ℕ} 0 1 = cc in absurd (omega arith);
     only_refused = λ r' e. (y, let f : r ≡ r' = cc in n ∙ ap Some f);
@@ -87,78 +84,56 @@ module _ {S : Type 0} (sound : S → ℕ) (reach c : ℕ) where
     alters_nothing = λ _. (refl, refl, refl);
   }
 
-  let_in : (h : History S) (b : Bool) (k : Call S) (e : Event) (bs : List Answer) (g : History S) (d : Bool)
-      → belongs b k ≡ true → refused_by sound reach c h k ≡ None → accepted e ≡ true → Tells sound reach c h k e bs
-      → LawAt sound reach c h b k e bs g d
-  let_in h b k e bs g d y n a right = record {
+  let_in : (h : History S) (b : Bool) (k : Call S) (d : Done) (bs : List Answer) (g : History S) (shut_then : Bool)
+      → belongs b k ≡ true → refused_by sound reach c h k ≡ None → Tells sound reach c h k d bs
+      → LawAt sound reach c h b k (Ok d) bs g shut_then
+  let_in h b k d bs g shut_then y n right = record {
     out_of_place = λ o. absurd (true≢false (sym y ∙ o));
     refused = λ r _ n'. let z : ◌≡◌ {A = ℕ} 0 1 = cc in absurd (omega arith);
-    accepts = λ _ _. (a, right);
-    only_out_of_place = λ f. absurd (true≢false (sym a ∙ ap accepted f));
-    only_refused = λ r f. absurd (true≢false (sym a ∙ ap accepted f));
+    accepts = λ _ _. right;
+    only_out_of_place = λ f. let z : ◌≡◌ {A = ℕ} 0 1 = cc in absurd (omega arith);
+    only_refused = λ r f. let z : ◌≡◌ {A = ℕ} 0 1 = cc in absurd (omega arith);
     only_accepts = λ _. (y, n);
-    alters_nothing = λ f. absurd (true≢false (sym a ∙ f));
+    alters_nothing = λ f. absurd (true≢false (sym f));
   }
 
   -- one call
   outcome_law : {s t : Stage S} {k : Call S} {e : Event} {bs : List Answer} → Outcome sound reach c s k e bs t
       → LawAt sound reach c (at_stage s) (shut s) k e bs (at_stage t) (shut t)
-  outcome_law (load_accepted n) = let_in _ _ _ _ _ _ _ refl n refl refl
+  outcome_law (load_accepted n) = let_in _ _ _ _ _ _ _ refl n refl
   outcome_law (load_refused n) = turned_away _ _ _ _ refl n
-  outcome_law (step_accepted {a = a} n right) = let_in _ _ _ _ _ _ _ refl n refl (a, refl, right)
+  outcome_law (step_accepted {a = a} n right) = let_in _ _ _ _ _ _ _ refl n (a, refl, right)
   outcome_law (step_refused n) = turned_away _ _ _ _ refl n
   outcome_law (run_accepted n right) =
-      let_in _ _ _ _ _ _ _ refl n refl (refl, played_length sound right, answered sound right)
+      let_in _ _ _ _ _ _ _ refl n (refl, played_length sound right, answered sound right)
   outcome_law (run_refused_lem n) = turned_away _ _ _ _ refl n
-  outcome_law clearing = let_in _ _ _ _ _ _ _ refl refl refl refl
+  outcome_law clearing = let_in _ _ _ _ _ _ _ refl refl refl
   outcome_law (closing {h = h} {o = o} right) =
-      let_in _ _ _ _ _ _ _ refl refl refl (o, refl, right, no_best sound h o right)
-  outcome_law reopening = let_in _ _ _ _ _ _ _ refl refl refl refl
+      let_in _ _ _ _ _ _ _ refl refl (o, refl, right, no_best sound h o right)
+  outcome_law reopening = let_in _ _ _ _ _ _ _ refl refl refl
   outcome_law (not_closed n) = out_of_place _ _ _ n
   outcome_law (not_rolling n) = out_of_place _ _ _ n
 
-  outcome_history : {s t : Stage S} {k : Call S} {e : Event} {bs : List Answer} → Outcome sound reach c s k e bs t
-      → at_stage t ≡ cond (accepted e) (done (at_stage s) k) (at_stage s)
-  outcome_history (load_accepted n) = refl
-  outcome_history (load_refused n) = refl
-  outcome_history (step_accepted n right) = refl
-  outcome_history (step_refused n) = refl
-  outcome_history (run_accepted n right) = refl
-  outcome_history (run_refused_lem n) = refl
-  outcome_history clearing = refl
-  outcome_history (closing right) = refl
-  outcome_history reopening = refl
-  outcome_history (not_closed n) = refl
-  outcome_history (not_rolling n) = refl
-
-  outcome_shut : {s t : Stage S} {k : Call S} {e : Event} {bs : List Answer} → Outcome sound reach c s k e bs t
-      → shut t ≡ cond (accepted e) (or_else (closing_of k) (shut s)) (shut s)
-  outcome_shut (load_accepted n) = refl
-  outcome_shut (load_refused n) = refl
-  outcome_shut (step_accepted n right) = refl
-  outcome_shut (step_refused n) = refl
-  outcome_shut (run_accepted n right) = refl
-  outcome_shut (run_refused_lem n) = refl
-  outcome_shut clearing = refl
-  outcome_shut (closing right) = refl
-  outcome_shut reopening = refl
-  outcome_shut (not_closed n) = refl
-  outcome_shut (not_rolling n) = refl
+  -- the history and the closing after it, and how many records it uses up
+  outcome_reads : {s t : Stage S} {k : Call S} {e : Event} {bs : List Answer} → Outcome sound reach c s k e bs t
+      → (at_stage t ≡ cond (is_ok e) (done (at_stage s) k) (at_stage s))
+      × (shut t ≡ cond (is_ok e) (unwrap_or (closing_of k) (shut s)) (shut s)) × (length bs ≡ used (given k) e)
+  outcome_reads (load_accepted n) = (refl, refl, refl)
+  outcome_reads (load_refused n) = (refl, refl, refl)
+  outcome_reads (step_accepted n right) = (refl, refl, refl)
+  outcome_reads (step_refused n) = (refl, refl, refl)
+  outcome_reads (run_accepted {h = h} {p = p} {n = m} n right) =
+      (refl, refl, played_length sound right ∙ even (length h.phrase) (length h.take) (length p.now) m n)
+  outcome_reads (run_refused_lem n) = (refl, refl, refl)
+  outcome_reads clearing = (refl, refl, refl)
+  outcome_reads (closing right) = (refl, refl, refl)
+  outcome_reads reopening = (refl, refl, refl)
+  outcome_reads (not_closed n) = (refl, refl, refl)
+  outcome_reads (not_rolling n) = (refl, refl, refl)
 
   pub outcome_records : {s t : Stage S} {k : Call S} {e : Event} {bs : List Answer} → Outcome sound reach c s k e bs t
       → length bs ≡ used (given k) e
-  outcome_records (load_accepted n) = refl
-  outcome_records (load_refused n) = refl
-  outcome_records (step_accepted n right) = refl
-  outcome_records (step_refused n) = refl
-  outcome_records (run_accepted {h = h} {p = p} {n = m} n right) =
-      played_length sound right ∙ even (length h.phrase) (length h.take) (length p.now) m n
-  outcome_records (run_refused_lem n) = refl
-  outcome_records clearing = refl
-  outcome_records (closing right) = refl
-  outcome_records reopening = refl
-  outcome_records (not_closed n) = refl
-  outcome_records (not_rolling n) = refl
+  outcome_records o = (outcome_reads o).2
 
   -- a whole life
   pub life_even : {ks : List (Call S)} {es : List Event} {rs : List Answer} {s : Stage S}
@@ -183,14 +158,14 @@ module _ {S : Type 0} (sound : S → ℕ) (reach c : ℕ) where
       → Life sound reach c ks es rs s → at_stage s ≡ history_of ks es
   life_history new = sym (call_by_call_lem S).history_at_first
   life_history (more {ks = ks} {es = es} {k = k} {e = e} life o) =
-      outcome_history o ∙ ap (λ h. cond (accepted e) (done h k) h) (life_history life)
+      (outcome_reads o).0 ∙ ap (λ h. cond (is_ok e) (done h k) h) (life_history life)
       ∙ sym (history_push ks es k e (life_even life))
 
   pub life_closed : {ks : List (Call S)} {es : List Event} {rs : List Answer} {s : Stage S}
       → Life sound reach c ks es rs s → shut s ≡ closed_of ks es
   life_closed new = sym (call_by_call_lem S).rolling_at_first
   life_closed (more {ks = ks} {es = es} {k = k} {e = e} life o) =
-      outcome_shut o ∙ ap (λ b. cond (accepted e) (or_else (closing_of k) b) b) (life_closed life)
+      (outcome_reads o).1 ∙ ap (λ b. cond (is_ok e) (unwrap_or (closing_of k) b) b) (life_closed life)
       ∙ sym (closed_push ks es k e (life_even life))
 
   -- the newest call
@@ -208,7 +183,7 @@ module _ {S : Type 0} (sound : S → ℕ) (reach c : ℕ) where
       let k₁ = sym (take_all (length ks + 1) (ks ++ (k ∷ [])) long) in
       let e₁ = sym (take_all (length ks + 1) (es ++ (e ∷ [])) long') in
       let kᵢ = sym (get_or_push ks k Clear (length ks) refl) in
-      let eᵢ = sym (get_or_push es e told.OutOfPlace (length ks) (sym even)) in
+      let eᵢ = sym (get_or_push es e (Err OutOfPlace) (length ks) (sym even)) in
       let u = outcome_records o in
       let fits : length bs ≤ used (given k) e = omega arith in
       let part = sym (take_all (used (given k) e) bs fits)

@@ -1,19 +1,17 @@
 -- What is promised of a list of calls that is performed.
-use Rattle.std.specs.Prelude.{◌≡◌, ℕ, ◌+◌, ◌<◌, ◌≤◌, Bool, true, false, cond, ◌⊎◌, List, ◌++◌, length, take, drop, slice_index_or}
+use Rattle.std.specs.Prelude.{◌≡◌, ℕ, ◌+◌, ◌<◌, ◌≤◌, cond, ◌⊎◌, List, ◌++◌, length, take, drop, slice_index_or}
 use Rattle.terms.specs.declared.answer.Answer.{Answer}
 use Rattle.readers.specs.Memory.{Memory}
 use Rattle.rows.specs.declared.mark.Mark.{Mark}
 use Rattle.finder.specs.History.{History}
-use Rattle.finder.specs.Slots.{Represents, ClearTold}
-use Rattle.finder.specs.declared.slot.Slot.{Slot}
+use Rattle.finder.specs.Slots.{Represents}
 use Rattle.finder.specs.declared.takes.Rolling.{Rolling}
 use Rattle.finder.specs.declared.takes.Closed.{Closed}
-use Rattle.life.specs.Readings.{history_of, closed_of, given, records_used_lem}
+use Rattle.life.specs.Readings.{Event, history_of, closed_of, given, records_used_lem}
 use Rattle.life.specs.Outcomes.{Stage, rolling, closed, Outcome, Life}
 use Rattle.life.specs.Laws.{Law}
 use Rattle.life.specs.declared.calls.Call.{Call}
 use Rattle.life.specs.declared.calls.Call.TheVariants.{Clear}
-use Rattle.life.specs.declared.calls.Event.{Event}
 use Rattle.life.specs.declared.calls.Take.{Take}
 use Rattle.life.specs.declared.calls.Take.TheVariants as is
 use Rattle.life.specs.declared.calls.Performed.{Performed}
@@ -22,12 +20,6 @@ use Rattle.life.specs.declared.calls.Performed.{Performed}
 abbrev pub stage_of : {S : Type 0} → List (Call S) → List Event → Stage S
 stage_of ks es = cond (closed_of ks es) (closed (history_of ks es)) (rolling (history_of ks es))
 
--- b tells whether one more call is made, where made of them are: there is a call, a place for its event among n, and
--- the records that it is given are among the left
-pub record Ready {S : Type 0} (calls : List (Call S)) (made n left : ℕ) (b : Bool) : Type 0 where
-  pub goes_on : b ≡ true → (made < length calls) × (made < n) × (given (slice_index_or calls made Clear) ≤ left)
-  pub stops : b ≡ false → made < length calls → (n ≤ made) ⊎ (left < given (slice_index_or calls made Clear))
-
 module _ {S R M : Type 0} (sound : S → ℕ) (memory : R → Memory) (marks : M → List Mark) where
   -- a take is at a stage, and its slot represents the stage's history
   pub data Stands : Take S R M → Stage S → Type 0 where
@@ -35,11 +27,6 @@ module _ {S R M : Type 0} (sound : S → ℕ) (memory : R → Memory) (marks : M
         → Stands (is.Rolling r) (rolling h)
     rests : {r : Closed S R M} {h : History S} → Represents sound memory marks r.slot h
         → Stands (is.Closed r) (closed h)
-
-  -- the take is rolling again, and its slot cleared
-  abbrev pub ReopenTold : Slot S R M → Take S R M → Type 0
-  ReopenTold s (is.Rolling r) = ClearTold sound memory marks s r.slot
-  ReopenTold s (is.Closed r) = ⊥
 
   module _ (reach c : ℕ) where
     -- what the making of one call comes to, with the records that it is given before and after

@@ -1,3 +1,6 @@
+ghost use Rattle.std.specs.Prelude.{◌≡◌};
+ghost use Rattle.life.specs.Readings.{given, used};
+
 use finder::takes::{Closed, Rolling};
 use readers::reader::Reader;
 use rows::row::Row;
@@ -6,7 +9,7 @@ use terms::answer::{Answer, BestStretch};
 use terms::refusal::Refusal;
 
 // A call on a slot, as it stands in a list of calls.
-#[derive(Clone, Copy)]
+#[derive(Clone, Copy, Debug, PartialEq, Eq)]
 pub enum Call<'a, S> {
     Load(&'a [S], usize),
     Step(S),
@@ -17,9 +20,29 @@ pub enum Call<'a, S> {
     Reopen,
 }
 
-// What a call came to.
-#[derive(Clone, Copy)]
-pub enum Event {
+impl<S> Call<'_, S> {
+    // How many records the call is given.
+    pub(crate) fn records(&self) -> usize
+        ensures { result ≡ given self.now }
+    {
+        if let Call::Run(_, n) = self { *n } else { 0 }
+    }
+
+    // How many of them it uses up, by its event.
+    pub(crate) fn records_used(&self, event: Event) -> usize
+        ensures { result ≡ used (given self.now) event }
+    {
+        if event == Ok(Done::Ran) {
+            self.records()
+        } else {
+            0
+        }
+    }
+}
+
+// What an accepted call did.
+#[derive(Clone, Copy, Debug, PartialEq, Eq)]
+pub enum Done {
     Loaded,
     Answered(Answer),
     // The answers stand in the list of records.
@@ -27,10 +50,18 @@ pub enum Event {
     Cleared,
     Closed(Option<BestStretch>),
     Reopened,
+}
+
+// Why a call was turned away. It alters nothing.
+#[derive(Clone, Copy, Debug, PartialEq, Eq)]
+pub enum Turned {
     Refused(Refusal),
-    // The call does not belong to the take as it then is, and alters nothing.
+    // The call does not belong to the take as it then is.
     OutOfPlace,
 }
+
+// What a call came to.
+pub type Event = Result<Done, Turned>;
 
 // A slot with its take, rolling or closed.
 #[derive(Drop)]

@@ -8,7 +8,7 @@ use steps::step::Step;
 // The law holds of every chain of calls on one slot, whoever makes them.
 pub fn any_chain<S: Step, R: Reader, M: Row>()
     ensures { ChainTold S.Step.sound R.Reader.memory M.Row.marks
-        (R.Reader.reaches S.Step.sounds) S.Step.sounds }
+        (R.Reader.reaches S.Step.SOUNDS) S.Step.SOUNDS }
 {}
 
 // The history that is read off the calls and their events goes on from call to call.

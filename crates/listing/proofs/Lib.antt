@@ -1,4 +1,2 @@
-pub mod Pasted
 pub mod Sounded
-pub mod Places
 pub mod Accepting

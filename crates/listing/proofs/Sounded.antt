@@ -1,27 +1,55 @@
 -- The sounds of a row of steps, read off its bytes one step at a time.
-use Rattle.std.proofs.Common.{◌≡◌, ℕ, ◌+◌, ◌*◌, ◌<◌, ◌≤◌, List, [], ◌∷◌, ◌++◌, map, length, get_or, take, set, sym, ap, ◌∙◌, arith}
-use native.Mathlib.Nat.{eq_of_mul-eq-mul_right}
+use Rattle.std.proofs.Common.{◌≡◌, ℕ, ◌<◌, ◌≤◌, List, [], ◌∷◌, ◌++◌, map, length, take, drop, sym, refl, ap, ◌∙◌, append_assoc, append-nil, arith, length-append}
 use lib.ListN.{length-map}
-use Rattle.std.proofs.lemmas.List.{take_more, take_more_set, take_all}
+use Rattle.std.proofs.lemmas.List.{take_at, drop_at}
 use Rattle.std.specs.List.{flat_map}
-use Rattle.sheets.specs.Layout.{part}
-use Rattle.sheets.proofs.Rows.{joined_length, placed}
 
-module _ {S : Type 0} (bytes : S → List ℕ) (sound : S → ℕ) (w : ℕ) (sized : (x : S) → length (bytes x) ≡ w) (some : 1 ≤ w)
-    (n : ℕ) (bs : List ℕ) (long : length bs ≡ n * w) (xs : List S) (e : flat_map bytes xs ≡ bs) where
-  many : length xs ≡ n
-  many = eq_of_mul-eq-mul_right w some (length xs) n (sym (joined_length bytes w sized xs) ∙ ap length e ∙ long)
+-- the sounds of xs are those in done and then those of steps with the bytes rest
+pub record Left {S : Type 0} (bytes : S → List ℕ) (sound : S → ℕ) (rest done : List ℕ) (xs : List S) : Type 0 where
+  pub steps : List S
+  pub are : flat_map bytes steps ≡ rest
+  pub sounds : map sound xs ≡ done ++ map sound steps
 
-  pub sound_step : (i r : ℕ) (ss : List ℕ) → i < n → n ≤ length ss → take i ss ≡ take i (map sound xs)
-      → ((x : S) → bytes x ≡ part w bs i → r ≡ sound x) → take (i + 1) (set ss i r) ≡ take (i + 1) (map sound xs)
-  sound_step i r ss h l t f =
-      let p = placed bytes w sized sound xs i (omega (arith, many)) in
-      let is : r ≡ get_or (map sound xs) i 0 = f p.0 (p.1 ∙ ap (λ b. part w b i) e) ∙ p.2 in
-      take_more_set ss i r (omega arith)
-      ∙ ap (λ v. v ++ (r ∷ [])) t
-      ∙ ap (λ v. take i (map sound xs) ++ (v ∷ [])) is
-      ∙ sym (take_more (map sound xs) i 0 (omega (arith, many, length-map xs sound)))
+-- a first step has the bytes in front, and the others have the rest
+record Parted {S : Type 0} (bytes : S → List ℕ) (front rest : List ℕ) (steps : List S) : Type 0 where
+  pub first : S
+  pub others : List S
+  pub is : bytes first ≡ front
+  pub are : flat_map bytes others ≡ rest
+  pub both : steps ≡ first ∷ others
 
-  pub sound_end : (i : ℕ) (ss : List ℕ) → i ≡ n → take i ss ≡ take i (map sound xs) → take n ss ≡ map sound xs
-  sound_end i ss h t =
-      ap (λ k. take k ss) (sym h) ∙ t ∙ take_all i (map sound xs) (omega (arith, many, length-map xs sound))
+module _ {S : Type 0} {bytes : S → List ℕ} {w : ℕ} (sized : (x : S) → length (bytes x) ≡ w) where
+  module _ (some : 1 ≤ w) (all front rest : List ℕ) (split : all ≡ front ++ rest) (wide : length front ≡ w) where
+    parted : (steps : List S) → flat_map bytes steps ≡ front ++ rest → Parted bytes front rest steps
+    parted [] e = absurd (omega (arith, ap length e, length-append front rest))
+    parted (x ∷ xs) e = record {
+      first = x;
+      others = xs;
+      is = sym (take_at (bytes x) (flat_map bytes xs) w (sized x)) ∙ ap (take w) e ∙ take_at front rest w wide;
+      are = sym (drop_at (bytes x) (flat_map bytes xs) w (sized x)) ∙ ap (drop w) e ∙ drop_at front rest w wide;
+      both = refl;
+    }
+
+    module _ {sound : S → ℕ} {done : List ℕ} {xs : List S} (h : Left bytes sound all done xs) where
+      p : Parted bytes front rest h.steps
+      p = parted h.steps (h.are ∙ split)
+
+      pub one_fits : length done < length xs
+      one_fits = omega (arith, ap length h.sounds, length-map xs sound, length-append done (map sound h.steps), ap (λ (s : List S). length (map sound s)) p.both)
+
+      pub one_less : (r : ℕ) (more : List ℕ) → more ≡ done ++ (r ∷ []) → ((x : S) → bytes x ≡ front → r ≡ sound x) → Left bytes sound rest more xs
+      one_less r more e f = record {
+        steps = p.others;
+        are = p.are;
+        sounds =
+            h.sounds ∙ ap (λ (s : List S). done ++ map sound s) p.both ∙ ap (λ y. done ++ (y ∷ map sound p.others)) (sym (f p.first p.is))
+            ∙ sym (append_assoc done (r ∷ []) (map sound p.others)) ∙ ap (λ d. d ++ map sound p.others) (sym e);
+      }
+
+  -- fewer bytes than a step has are no step's
+  pub none_left : {sound : S → ℕ} {rest done : List ℕ} {xs : List S} → length rest < w → Left bytes sound rest done xs → done ≡ map sound xs
+  none_left {sound} {rest} {done} l h = sym (h.sounds ∙ ap (λ (s : List S). done ++ map sound s) (nil h.steps h.are) ∙ append-nil done)
+    where
+      nil : (steps : List S) → flat_map bytes steps ≡ rest → steps ≡ []
+      nil [] e = refl
+      nil (x ∷ ys) e = absurd (omega (arith, ap length e, length-append (bytes x) (flat_map bytes ys), sized x))

@@ -1,4 +1,3 @@
-pub mod Room
 pub mod Texts
 pub mod Lines
 pub mod Listed

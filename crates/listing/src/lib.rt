@@ -8,4 +8,3 @@ pub mod output;
 mod playing;
 mod sounds;
 pub mod text;
-mod writing;

@@ -3,17 +3,16 @@ ghost use Rattle.listing.specs.Lines.{line_bytes};
 ghost use Rattle.listing.specs.Texts.{text_of};
 
 use crate::text::LineText;
+use itoa::Buffer;
+use sheets::fault::SheetRefusal;
+use terms::answer::{Answer, BestStretch};
 
 // One line of a listing.
-#[derive(Clone, Copy)]
+#[derive(Clone, Copy, Debug, PartialEq, Eq)]
 pub enum Line {
-    // Step, gap and start of an answer.
-    Step(u32, u32, u32),
-    // Gap, start and end of the best stretch.
-    Best(u32, u32, u32),
-    NoBest,
-    // Number and byte place of a refusal.
-    Refused(u8, usize),
+    Step(Answer),
+    Best(Option<BestStretch>),
+    Refused(SheetRefusal),
 }
 
 impl Line {
@@ -22,49 +21,16 @@ impl Line {
         ensures { text_of result ≡ line_bytes self }
     {
         match self {
-            Line::Step(step, gap, start) => step_text(step, gap, start),
-            Line::Best(gap, start, end) => best_text(gap, start, end),
-            Line::NoBest => no_best_text(),
-            Line::Refused(number, place) => refused_text(number, place),
+            Line::Step(a) => LineText::of(
+                Buffer::new().format(a.step),
+                &[a.gap as usize, a.start as usize],
+            ),
+            Line::Best(None) => LineText::of("best none", &[]),
+            Line::Best(Some(b)) => LineText::of(
+                "best",
+                &[b.gap as usize, b.start as usize, b.end as usize],
+            ),
+            Line::Refused(e) => LineText::of("refused", &[e.cause.number().into(), e.place]),
         }
     }
-}
-
-fn step_text(step: u32, gap: u32, start: u32) -> LineText
-    ensures { text_of result ≡ line_bytes (Line.Step step gap start) }
-{
-    let mut text = LineText::new();
-    text.number(step as usize);
-    text.spaced(gap as usize);
-    text.spaced(start as usize);
-    text.ended()
-}
-
-fn best_text(gap: u32, start: u32, end: u32) -> LineText
-    ensures { text_of result ≡ line_bytes (Line.Best gap start end) }
-{
-    let mut text = LineText::new();
-    text.word(b"best");
-    text.spaced(gap as usize);
-    text.spaced(start as usize);
-    text.spaced(end as usize);
-    text.ended()
-}
-
-fn no_best_text() -> LineText
-    ensures { text_of result ≡ line_bytes Line.NoBest }
-{
-    let mut text = LineText::new();
-    text.word(b"best none");
-    text.ended()
-}
-
-fn refused_text(number: u8, place: usize) -> LineText
-    ensures { text_of result ≡ line_bytes (Line.Refused number place) }
-{
-    let mut text = LineText::new();
-    text.word(b"refused");
-    text.spaced(number as usize);
-    text.spaced(place);
-    text.ended()
 }

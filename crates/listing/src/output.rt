@@ -1,7 +1,7 @@
 ghost use Rattle.std.specs.Prelude.{◌≡◌, ◌++◌, IfOk, OnOk};
 ghost use Rattle.std.specs.List.{flat_map};
 ghost use Rattle.listing.specs.Lines.{line_bytes};
-ghost use Rattle.listing.specs.Listed.{bytes_at_lem, lines_of};
+ghost use Rattle.listing.specs.Listed.{lines_of};
 
 use crate::line::Line;
 use crate::made::Listing;
@@ -15,25 +15,15 @@ fn add_line(out: &mut Vec<u8>, line: Line) -> Result<(), AllocError>
 }
 
 impl Listing {
-    // Adds the bytes of the line at a place, if there is one.
-    fn add_at(&self, k: usize, out: &mut Vec<u8>) -> Result<(), AllocError>
-        ensures { OnOk result (out.new.items
-            ≡ out.old.items ++ bytes_at_lem (lines_of self.now) k) }
-    {
-        match self.line(k) {
-            Some(line) => add_line(out, line),
-            None => Ok(()),
-        }
-    }
-
     // The bytes of all lines, one after the other; an error only for want of memory.
     pub fn to_bytes(&self, heap: Global) -> Result<Vec<u8>, AllocError>
         ensures { IfOk result (λ v. v.items ≡ flat_map line_bytes (lines_of self.now)) }
     {
         let mut out = Vec::new(heap);
-        for k in 0..self.line_count() {
-            self.add_at(k, &mut out)?;
+        for answer in self.answers.as_slice() {
+            add_line(&mut out, Line::Step(*answer))?;
         }
+        add_line(&mut out, self.last)?;
         Ok(out)
     }
 }

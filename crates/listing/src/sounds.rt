@@ -1,27 +1,25 @@
-ghost use Rattle.std.specs.Prelude.{◌≡◌, ◌*◌, ◌≤◌, length, take};
-ghost use Rattle.listing.specs.Listed.{SoundsAt};
+ghost use Rattle.std.specs.Prelude.{◌≡◌};
+ghost use Rattle.sheets.specs.Layout.{StepOf, bytes_of, sound_of};
+ghost use Rattle.listing.specs.Listed.{SoundsAt, StepsWritten};
 
-use steps::step::Step;
+use arrayvec::ArrayVec;
+use sheets::kind::Kind;
 
-// The sound of the step that these bytes are.
-fn sound_at<S: Step + Drop>(bytes: &[u8]) -> u32
-    ensures { (x : S) → S.Step.bytes x ≡ bytes.now → result ≡ S.Step.sound x }
+// The sound of the kind's step that these bytes are.
+fn sound_at(kind: Kind, bytes: &[u8]) -> u32
+    ensures { (x : StepOf kind) → bytes_of kind x ≡ bytes.now → result ≡ sound_of kind x }
 {
-    match S::decode(bytes) {
-        Ok(step) => step.sound(),
-        Err(_) => 0,
-    }
+    kind.sound(bytes).unwrap_or(0)
 }
 
-// The sounds of so many steps, whose bytes these are, at the front of the list.
-pub(crate) fn fill_sounds<S: Step + Drop>(bytes: &[u8], count: usize, sounds: &mut [u32])
-    requires bytes { length bytes.now ≡ count * S.Step.size }
-    requires room { count ≤ length sounds.old }
-    ensures { SoundsAt S.Step.bytes S.Step.sound bytes.now (take count sounds.new) }
+// The sounds of the kind's steps that have these bytes, at most N.
+pub(crate) fn sounds_of<const N: usize>(kind: Kind, bytes: &[u8]) -> ArrayVec<u32, N>
+    requires { StepsWritten (bytes_of kind) N bytes.now }
+    ensures { SoundsAt (bytes_of kind) (sound_of kind) bytes.now result.items }
 {
-    let size = S::byte_count();
-    for i in 0..count {
-        let at = i * size;
-        sounds[i] = sound_at::<S>(&bytes[at..at + size]);
+    let mut sounds = ArrayVec::new();
+    for step in bytes.chunks_exact(kind.step_bytes()) {
+        sounds.push(sound_at(kind, step));
     }
+    sounds
 }

@@ -8,6 +8,7 @@ mod tests {
     use readers::reader::Reader;
     use readers::sliding::SlidingReader;
     use readers::states::StatesReader;
+    use std::array;
     use std::process::Abort;
     use std::test::Fail;
     use terms::limits::LONGEST_PHRASE;
@@ -15,10 +16,7 @@ mod tests {
 
     // The number of a refusal, 0 for an accepted load.
     fn number(r: Result<(), Refusal>) -> u8 {
-        match r {
-            Ok(_) => 0,
-            Err(e) => e.number(),
-        }
+        r.err().map_or(0, Refusal::number)
     }
 
     // A new reader's answer to a load.
@@ -27,16 +25,16 @@ mod tests {
         assert_eq!(rt; number(reader.load(phrase, q, c)), wanted);
     }
 
-    // Both readers hear the take and answer alike, as wanted; and again after a forgetting.
-    fn play(rt: &impl Abort, phrase: &[u32], q: usize, c: u32, take: &[u32], wanted: &[usize]) {
-        let mut states = <StatesReader as Reader>::new();
-        let mut sliding = <SlidingReader as Reader>::new();
+    // Both readers hear each sound of the take and answer as wanted; and again after a forgetting.
+    fn play(rt: &impl Abort, phrase: &[u32], q: usize, c: u32, take: &[(u32, usize)]) {
+        let mut states = StatesReader::new();
+        let mut sliding = SlidingReader::new();
         assert_eq!(rt; number(states.load(phrase, q, c)), 0);
         assert_eq!(rt; number(sliding.load(phrase, q, c)), 0);
         for _again in 0..2 {
-            for (sound, answer) in take.iter().zip(wanted.iter()) {
-                assert_eq!(rt; states.hear(*sound), *answer);
-                assert_eq!(rt; sliding.hear(*sound), *answer);
+            for &(sound, wanted) in take {
+                assert_eq!(rt; states.hear(sound), wanted);
+                assert_eq!(rt; sliding.hear(sound), wanted);
             }
             states.forget();
             sliding.forget();
@@ -58,14 +56,20 @@ mod tests {
 
     fn refuse_all<R: Reader>(rt: &impl Abort) {
         let long: [u32; LONGEST_PHRASE + 1] = [1; LONGEST_PHRASE + 1];
-        refuse::<R>(rt, &[], 0, 0, 11);
-        refuse::<R>(rt, &long, 0, 0, 12);
-        refuse::<R>(rt, &[1, 2], 0, 0, 13);
-        refuse::<R>(rt, &[1, 2], 3, 0, 13);
-        refuse::<R>(rt, &long[0..LONGEST_PHRASE], 9, 0, 13);
-        refuse::<R>(rt, &[1, 2], 1, 0, 14);
-        refuse::<R>(rt, &[1, 4], 1, 4, 15);
-        load::<R>(rt, &long[0..LONGEST_PHRASE], 6, 4, 0);
+        let fits = &long[..LONGEST_PHRASE];
+        let refused: [(&[u32], usize, u32, u8); 7] = [
+            (&[], 0, 0, 11),
+            (&long, 0, 0, 12),
+            (&[1, 2], 0, 0, 13),
+            (&[1, 2], 3, 0, 13),
+            (fits, 9, 0, 13),
+            (&[1, 2], 1, 0, 14),
+            (&[1, 4], 1, 4, 15),
+        ];
+        for (phrase, q, c, wanted) in refused {
+            refuse::<R>(rt, phrase, q, c, wanted);
+        }
+        load::<R>(rt, fits, 6, 4, 0);
         load::<R>(rt, &[1, 2], 2, 4, 0);
     }
 
@@ -94,8 +98,21 @@ mod tests {
             &[2, 0, 2, 0],
             2,
             4,
-            &[0, 2, 0, 2, 3, 2, 0, 4, 0, 2, 4_294_967_295, 2, 0],
-            &[0, 2, 1, 2, 0, 0, 1, 0, 0, 2, 0, 0, 1],
+            &[
+                (0, 0),
+                (2, 2),
+                (0, 1),
+                (2, 2),
+                (3, 0),
+                (2, 0),
+                (0, 1),
+                (4, 0),
+                (0, 0),
+                (2, 2),
+                (4_294_967_295, 0),
+                (2, 0),
+                (0, 1),
+            ],
         );
         // lanes at the sliding reader's reach, q the whole phrase
         play(
@@ -103,8 +120,16 @@ mod tests {
             &[0, 1, 2, 3, 0, 1],
             6,
             4,
-            &[1, 0, 1, 2, 3, 0, 1, 2],
-            &[0, 0, 0, 0, 0, 0, 1, 0],
+            &[
+                (1, 0),
+                (0, 0),
+                (1, 0),
+                (2, 0),
+                (3, 0),
+                (0, 0),
+                (1, 1),
+                (2, 0),
+            ],
         );
         // notes at its reach
         play(
@@ -112,8 +137,16 @@ mod tests {
             &[46, 0, 46, 46],
             2,
             47,
-            &[46, 46, 0, 46, 0, 47, 46, 0],
-            &[0, 3, 1, 2, 1, 0, 0, 1],
+            &[
+                (46, 0),
+                (46, 3),
+                (0, 1),
+                (46, 2),
+                (0, 1),
+                (47, 0),
+                (46, 0),
+                (0, 1),
+            ],
         );
         // single sounds
         play(
@@ -121,8 +154,7 @@ mod tests {
             &[3, 1, 3],
             1,
             4096,
-            &[1, 3, 2, 4095, 3],
-            &[2, 1, 0, 0, 1],
+            &[(1, 2), (3, 1), (2, 0), (4095, 0), (3, 1)],
         );
     }
 
@@ -143,9 +175,11 @@ mod tests {
         let phrase: [u32; LONGEST_PHRASE] = [0; LONGEST_PHRASE];
         let mut reader = R::new();
         assert_eq!(rt; number(reader.load(&phrase, 8, 1)), 0);
-        for i in 0..LONGEST_PHRASE {
-            let wanted = if i < 7 { 0 } else { 1 };
-            assert_eq!(rt; reader.hear(0), wanted);
+        for _short in 0..7 {
+            assert_eq!(rt; reader.hear(0), 0);
+        }
+        for _whole in 7..LONGEST_PHRASE {
+            assert_eq!(rt; reader.hear(0), 1);
         }
         assert_eq!(rt; reader.count(1), LONGEST_PHRASE - 7);
         assert_eq!(rt; reader.count(2), 0);
@@ -159,22 +193,17 @@ mod tests {
 
     // A phrase of different masks.
     fn masks() -> [u32; LONGEST_PHRASE] {
-        let mut phrase = [0; LONGEST_PHRASE];
-        for i in 0..LONGEST_PHRASE {
-            phrase[i] = 65_535 - i as u32;
-        }
-        phrase
+        array::from_fn(|i| 65_535 - i as u32)
     }
 
     // It needs every state.
     #[test]
     fn different_masks(rt: HostRuntime) {
         let phrase = masks();
-        let mut reader = <StatesReader as Reader>::new();
+        let mut reader = StatesReader::new();
         assert_eq!(rt; number(reader.load(&phrase, 8, 65_536)), 0);
-        for i in 0..LONGEST_PHRASE {
-            let wanted = if i < 7 { 0 } else { i - 6 };
-            assert_eq!(rt; reader.hear(65_535 - i as u32), wanted);
+        for (i, &mask) in phrase.iter().enumerate() {
+            assert_eq!(rt; reader.hear(mask), i.saturating_sub(6));
         }
         assert_eq!(rt; reader.count(LONGEST_PHRASE - 7), 1);
         assert_eq!(rt; reader.count(LONGEST_PHRASE - 6), 0);
@@ -183,12 +212,8 @@ mod tests {
 
     #[test]
     fn listens(rt: HostRuntime) -> Result<(), Fail> {
-        match listen::<StatesReader>(&[2, 0, 2, 0], 2, 4, &[0, 2, 0, 2]) {
-            Ok(code) => {
-                assert_eq!(rt; code, 2);
-                Ok(())
-            },
-            Err(_) => Err(Fail::new("refused")),
-        }
+        let code = listen::<StatesReader>(&[2, 0, 2, 0], 2, 4, &[0, 2, 0, 2])?;
+        assert_eq!(rt; code, 2);
+        Ok(())
     }
 }

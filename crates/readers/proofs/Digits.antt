@@ -4,7 +4,7 @@ use native.Mathlib.Nat.{pow-zero, one-le-pow, pow-le-pow_right}
 use lib.Arith.{mod-mul}
 use Rattle.std.proofs.lemmas.List.{length_push, drop-append-le, same_from_push}
 use Rattle.std.proofs.lemmas.Nat.{div-mul-add, mod-mul-add, div_below, div-add-mod', mod_below}
-use Rattle.std.proofs.lemmas.Bool.{lt-ltb, le-ltb}
+use Rattle.std.proofs.lemmas.Bool.{lt-ltb}
 use Rattle.terms.specs.Marks.{newest}
 use Rattle.readers.specs.Window.{digits, slid}
 
@@ -78,13 +78,6 @@ below_more b w p n h x zb l e k g =
 
 slid_is : (c w : ℕ) (ws : List ℕ) (x : ℕ) → x < c → slid c w ws x ≡ newest w (ws ++ (x ∷ []))
 slid_is c w ws x h = rw (lt-ltb x c h)
-
-pub slid_none : (c w : ℕ) (ws : List ℕ) (x : ℕ) → c ≤ x → slid c w ws x ≡ []
-slid_none c w ws x h = rw (le-ltb x c h)
-
-pub digits_none : (c n : ℕ) → digits c 0 n ≡ []
-unfolding digits
-digits_none c n = refl
 
 pub slid_more : (b w p n h x : ℕ) → 0 < b → h < w → p ≡ b ^ (w - 1) → n < b ^ h → x < b → digits b (h + 1) (n % p * b + x) ≡ slid b w (digits b h n) x
 slid_more b w p n h x zb l e k g =

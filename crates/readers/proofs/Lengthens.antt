@@ -4,14 +4,16 @@ use Rattle.std.proofs.lemmas.Bool.{cases_lt, cases_Bool}
 use Rattle.std.proofs.lemmas.List.{get_or-set_same, get_or-set_other, length-append, length_push, same_from_push, drop_at, take_at}
 use Rattle.terms.specs.Reading.{Run, is_run}
 use Rattle.terms.proofs.Reading.{is_run_true}
-use Rattle.readers.specs.Table.{Node, Tree, Childless, Child, run, Runs, Complete, Stands, Built}
-use Rattle.readers.specs.Grows.{Grown, up}
+use Rattle.readers.specs.declared.state.State.{State}
+use Rattle.readers.specs.Table.{Node, Tree, Childless, Child, node, nodes, blank, grown, run, Runs, Complete, Stands, Built, Uncoded}
+use Rattle.readers.specs.Grows.{Grown, up, grown_is, length_grown, uncoded_grown}
 use Rattle.readers.specs.Building.{run_more, run_tail, run_length, stands_grown, stands_new, complete_grown, runs_grown}
 
 below_next : (P : ℕ → Type 0) (a : ℕ) → ((b : ℕ) → b < a → P b) → P a → (b : ℕ) → b < a + 1 → P b
 below_next P a f x b h = elim (up a b h) [ inl k ↦ f b k | inr k ↦ subst P (sym k) x ]
 
-module _ (p : List ℕ) (l a n : ℕ) (N : ℕ → Node) (places : List ℕ) (t : Built p l a (l + 1) n N places) (in_phrase : a + l < length p) (in_places : a < length places) where
+module _ (p : List ℕ) (l a n : ℕ) (N : ℕ → Node) (places : List ℕ) (t : Built p l a (l + 1) n N places) (in_phrase : a + l < length p) (in_places : a < length places)
+    (x : ℕ) (sound_is : x ≡ get_or p (a + l) 0) where
   here : Stands p n N l a (get_or places a 0)
   here = t.todo a (omega arith) (omega arith)
 
@@ -26,19 +28,19 @@ module _ (p : List ℕ) (l a n : ℕ) (N : ℕ → Node) (places : List ℕ) (t 
         subst (Stands p m M l b) (sym (get_or-set_other places a b j 0 ne)) (keep l b _ (t.todo b (omega arith) k)),
   )
 
-  pub step_found : (j : ℕ) → Child n N (get_or places a 0) (get_or p (a + l) 0) j → Built p l (a + 1) (l + 1) n N (set places a j)
+  step_found : (j : ℕ) → Child n N (get_or places a 0) x j → Built p l (a + 1) (l + 1) n N (set places a j)
   step_found j c =
       let r = t.runs in
       let o = others N n j (λ k b i s. s) (record {
         in_table = c.in_table;
         len_is = r.grows j c.some c.in_table ∙ ap (λ v. (N v).len + 1) c.parent_is ∙ ap (λ v. v + 1) here.len_is;
         run_is = r.made j c.some c.in_table ∙ ap₂ (λ u v. run p (N u) ++ (v ∷ [])) c.parent_is c.sound_is
-            ∙ ap (λ u. u ++ (get_or p (a + l) 0 ∷ [])) here.run_is ∙ sym (run_more p a l in_phrase);
+            ∙ ap₂ (λ u v. u ++ (v ∷ [])) here.run_is sound_is ∙ sym (run_more p a l in_phrase);
       }) in
       record { runs = r; short = t.short; complete = t.complete; done = o.0; todo = o.1 }
 
-  pub step_new : (s : Node) (N' : ℕ → Node) → Tree n N → Grown n (get_or places a 0) s N N' → s.at ≡ a → s.len ≡ l + 1 → s.sound ≡ get_or p (a + l) 0 → s.shorter ≡ get_or places (a + 1) 0
-      → Childless n N (get_or places a 0) (get_or p (a + l) 0) → Built p l (a + 1) (l + 1) (n + 1) N' (set places a n)
+  step_new : (s : Node) (N' : ℕ → Node) → Tree n N → Grown n (get_or places a 0) s N N' → s.at ≡ a → s.len ≡ l + 1 → s.sound ≡ x → s.shorter ≡ get_or places (a + 1) 0
+      → Childless n N (get_or places a 0) x → Built p l (a + 1) (l + 1) (n + 1) N' (set places a n)
   step_new s N' tr g ea el es eh free =
       let r = t.runs in
       let nx = t.todo (a + 1) (omega arith) (omega arith) in
@@ -46,7 +48,7 @@ module _ (p : List ℕ) (l a n : ℕ) (N : ℕ → Node) (places : List ℕ) (t 
       let o = others N' (n + 1) n (λ k b i. stands_grown p n _ s N N' g k b i) (stands_new p n _ s N N' g (l + 1) a el ea) in
       record {
         runs = runs_grown p n _ s N N' g r tr (omega arith)
-            (rs ∙ run_more p a l in_phrase ∙ ap₂ (λ u v. u ++ (v ∷ [])) (sym here.run_is) (sym es))
+            (rs ∙ run_more p a l in_phrase ∙ ap₂ (λ u v. u ++ (v ∷ [])) (sym here.run_is) (sym (es ∙ sound_is)))
             (el ∙ ap (λ v. v + 1) (sym here.len_is))
             (subst (λ v. v < n) (sym eh) nx.in_table)
             (ap (λ v. run p (N v)) eh ∙ nx.run_is ∙ sym (ap (drop 1) rs ∙ run_tail p a l (omega arith)))
@@ -60,6 +62,33 @@ module _ (p : List ℕ) (l a n : ℕ) (N : ℕ → Node) (places : List ℕ) (t 
         done = o.0;
         todo = o.1;
       }
+
+-- the same of the states of a table: the run of one sound more stands at a place, or is added
+module _ (p : List ℕ) (l a : ℕ) (ss : List State) (places : List ℕ) (t : Built p l a (l + 1) (length ss) (nodes ss) places) (in_phrase : a + l < length p) (in_places : a < length places)
+    (x : ℕ) (sound_is : x ≡ get_or p (a + l) 0) (ss' : List State) (j : ℕ) where
+  pub place_found : ss' ≡ ss → (k : ℕ) → j ≡ k → Child (length ss) (nodes ss) (get_or places a 0) x k → Built p l (a + 1) (l + 1) (length ss') (nodes ss') (set places a j)
+  place_found e k f c =
+      subst (λ (v : List State). Built p l (a + 1) (l + 1) (length v) (nodes v) (set places a j)) (sym e)
+      (subst (λ v. Built p l (a + 1) (l + 1) (length ss) (nodes ss) (set places a v)) (sym f) (step_found p l a (length ss) (nodes ss) places t in_phrase in_places x sound_is k c))
+
+  abbrev added : State
+  added = record { at = a; len = l + 1; sound = x; code = 0; parent = get_or places a 0; shorter = get_or places (a + 1) 0; child = 0; next = (get_or ss (get_or places a 0) blank).child }
+
+  pub place_new : ss' ≡ grown ss (get_or places a 0) added → j ≡ length ss → Tree (length ss) (nodes ss) → Childless (length ss) (nodes ss) (get_or places a 0) x
+      → Built p l (a + 1) (l + 1) (length ss') (nodes ss') (set places a j)
+  place_new e f tree free =
+      let under = (t.todo a (omega arith) (omega arith)).in_table in
+      let g = grown_is ss (get_or places a 0) added under refl refl refl in
+      let d = step_new p l a (length ss) (nodes ss) places t in_phrase in_places x sound_is (node added) (nodes (grown ss (get_or places a 0) added)) tree g refl refl refl refl free in
+      subst (λ (v : List State). Built p l (a + 1) (l + 1) (length v) (nodes v) (set places a j)) (sym e)
+      (subst (λ n. Built p l (a + 1) (l + 1) n (nodes (grown ss (get_or places a 0) added)) (set places a j)) (sym (length_grown ss (get_or places a 0) added))
+      (subst (λ v. Built p l (a + 1) (l + 1) (length ss + 1) (nodes (grown ss (get_or places a 0) added)) (set places a v)) (sym f) d))
+
+  pub new_uncoded : ss' ≡ grown ss (get_or places a 0) added → Uncoded ss → Uncoded ss'
+  new_uncoded e u = subst Uncoded (sym e) (uncoded_grown ss (get_or places a 0) added (t.todo a (omega arith) (omega arith)).in_table refl u)
+
+  pub one_more : ss' ≡ grown ss (get_or places a 0) added → length ss' ≡ length ss + 1
+  one_more e = ap length e ∙ length_grown ss (get_or places a 0) added
 
 -- all places are done
 pub finish : (p : List ℕ) (l n : ℕ) (N : ℕ → Node) (places : List ℕ) → Tree n N → l < length p → Built p l (length p - l) (l + 1) n N places → Built p (l + 1) 0 (l + 1) n N places

@@ -6,7 +6,7 @@ use Rattle.terms.specs.Codes.{heard}
 use Rattle.terms.specs.Reading.{LongestEnd, answered}
 use Rattle.terms.proofs.Reading.{every_reader_lem}
 use Rattle.readers.specs.Memory.{Memory, nothing, held, Hears, without_phrase_lem, with_phrase}
-use Rattle.readers.specs.Listening.{Listened, HearsAll, HearsAfresh}
+use Rattle.readers.specs.Listening.{Listened, HearsAll}
 
 -- after t the reader hears x
 on : (q : ℕ) (p t r r' : List ℕ) (x a : ℕ) → LongestEnd q p t r → LongestEnd q p (r ++ (x ∷ [])) r' → a ≡ answered q p r'
@@ -78,13 +78,6 @@ always_answers p q t m a h k = elim (cases_lt 0 (length t)) [
   | inl z ↦ k.answer z
   | inr z ↦ let e : length t ≡ 0 = omega arith in k.silence e ∙ rw (lt-leb q (length t) (omega arith))
 ]
-
-pub hears_afresh : (m m₀ m' : Memory) (t : List ℕ) (a : ℕ) → ((p : List ℕ) (q : ℕ) (r : List ℕ) → m ≡ held p q r → m₀ ≡ held p q []) → (m ≡ nothing → m₀ ≡ nothing)
-    → HearsAll m₀ t m' a → HearsAfresh m t m' a
-hears_afresh m m₀ m' t a f g k = record {
-  from_any_end = λ p q r e. k.from_empty_end p q (f p q r e);
-  from_nothing = λ e. k.from_nothing (g e);
-}
 
 -- what is heard is settled by the memory and the sound
 pub hears_once : (m n m' n' : Memory) (x a b : ℕ) → m ≡ n → Hears m x m' a → Hears n x n' b → (m' ≡ n') × (a ≡ b)

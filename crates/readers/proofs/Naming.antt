@@ -1,14 +1,17 @@
 -- The states get their codes.
-use Rattle.std.proofs.Common.{◌≡◌, ℕ, zero, suc, ◌+◌, ◌<◌, ◌≤◌, ◌≢◌, List, [], ◌∷◌, ◌++◌, length, get_or, take, drop, set, sym, refl, ap, ◌∙◌, subst, inl, inr, arith}
+use Rattle.std.proofs.Common.{◌≡◌, ℕ, zero, suc, ◌+◌, ◌-◌, ◌<◌, ◌≤◌, ◌≢◌, List, [], ◌∷◌, ◌++◌, length, get_or, take, drop, set, sym, refl, ap, ◌∙◌, subst, inl, inr, arith}
 use Rattle.std.proofs.lemmas.Bool.{cases_eq, cases_lt, eq-eqb, ne_eqb}
-use Rattle.std.proofs.lemmas.List.{get_or-set_same, get_or-set_other, length_push, length-take}
+use Rattle.std.proofs.lemmas.List.{get_or-set_same, get_or-set_other, length-set, length_push, length-take}
+use Rattle.std.proofs.lemmas.Grind.{common_steps}
+use Rattle.std.specs.List.{refill}
+use Rattle.arrayvec.proofs.ArrayVecLemmas.{items-with_items}
 use Rattle.terms.specs.Figures.{figures, different}
 use Rattle.terms.specs.Codes.{code, count_of, count_at, numbered}
 use Rattle.terms.proofs.Numbering.{different_new, different_old, code_next}
 use Rattle.terms.proofs.Coded.{code_found}
 use Rattle.terms.proofs.Counts.{count_append, count_same}
 use Rattle.readers.specs.declared.state.State.{State}
-use Rattle.readers.specs.Table.{Node, node, nodes, blank, with_code, run, Runs, Codes, Counts, CodeGiven, Numbered, Built, Uncoded}
+use Rattle.readers.specs.Table.{Node, Tree, node, nodes, blank, with_code, run, Runs, Codes, Counts, CodeGiven, Numbered, Stands, Built, Uncoded}
 use Rattle.readers.proofs.Coding.{code_old, code_other, unseen, seen, count_of_push, figure_at, code_small, count_of_small, different_small}
 
 with_code_at : (ss : List State) (j h k : ℕ) → j < length ss → nodes (set ss j (with_code (get_or ss j blank) h)) k ≡ nodes ss k
@@ -18,8 +21,22 @@ with_code_at ss j h k l = elim (cases_eq k j) [
   | inr e ↦ ap node (get_or-set_other ss j k (with_code (get_or ss j blank) h) blank e)
 ]
 
-pub with_code_nodes : (ss : List State) (j h : ℕ) → j < length ss → nodes (set ss j (with_code (get_or ss j blank) h)) ≡ nodes ss
+with_code_nodes : (ss : List State) (j h : ℕ) → j < length ss → nodes (set ss j (with_code (get_or ss j blank) h)) ≡ nodes ss
 with_code_nodes ss j h l = λ i k. with_code_at ss j h k l i
+
+with_code_tree : (ss : List State) (j h : ℕ) → j < length ss → Tree (length ss) (nodes ss)
+    → Tree (length (set ss j (with_code (get_or ss j blank) h))) (nodes (set ss j (with_code (get_or ss j blank) h)))
+with_code_tree ss j h l t =
+    subst (λ (N : ℕ → Node). Tree (length (set ss j (with_code (get_or ss j blank) h))) N) (sym (with_code_nodes ss j h l))
+    (subst (λ n. Tree n (nodes ss)) (sym (length-set ss j (with_code (get_or ss j blank) h))) t)
+
+-- the same where the code is written through the vector of states
+pub coded_tree : (ss ys : List State) (j h : ℕ) → j < length ss → ys ≡ ss → Tree (length ss) (nodes ss)
+    → Tree (length (refill (length ss) ss (set ys j (with_code (get_or ys j blank) h)))) (nodes (refill (length ss) ss (set ys j (with_code (get_or ys j blank) h))))
+coded_tree ss ys j h l e t =
+    let is = items-with_items (record { items = ss }) (set ss j (with_code (get_or ss j blank) h)) (length-set ss j (with_code (get_or ss j blank) h)) in
+    let P : List State → Type 0 = λ v. Tree (length v) (nodes v) in
+    subst (λ (v : List State). P (refill (length ss) ss (set v j (with_code (get_or v j blank) h)))) (sym e) (subst P (sym is) (with_code_tree ss j h l t))
 
 module _ (p : List ℕ) (ps : List (List ℕ)) (f : List ℕ) (n : ℕ) (ss : List State) (j : ℕ) (c : Codes p ps n ss) (jn : j < n) (is : run p (nodes ss j) ≡ f) where
   code_here : (get_or ss j blank).code ≡ code ps f
@@ -76,12 +93,14 @@ counts_step ps f counts c k e l h = elim (cases_lt 0 h) [
 ]
 
 module _ (p : List ℕ) (ps : List (List ℕ)) (f : List ℕ) (n : ℕ) (N : ℕ → Node) (r : Runs p n N) where
-  pub numbered_step : (ss ss' : List State) (j codes codes' : ℕ) → j < n → n ≤ length ss → run p (N j) ≡ f → Numbered p ps n N ss codes → CodeGiven j codes ss ss' codes'
+  pub numbered_step : (ss ss' : List State) (j codes codes' : ℕ) → j < n → run p (N j) ≡ f → Numbered p ps n N ss codes → CodeGiven j codes ss ss' codes'
       → Numbered p (ps ++ (f ∷ [])) n N ss' codes' × ((get_or ss' j blank).code ≡ code (ps ++ (f ∷ [])) f)
-  numbered_step ss ss' j codes codes' jn nl e b m = elim (cases_eq (get_or ss j blank).code 0) [
+  numbered_step ss ss' j codes codes' jn e b m = elim (cases_eq (get_or ss j blank).code 0) [
     | inl z ↦
         let k = m.new z in
+        let l = b.as_many in
         let d : Numbered p (ps ++ (f ∷ [])) n N (set ss j (with_code (get_or ss j blank) (codes + 1))) codes' = record {
+          as_many = length-set ss j (with_code (get_or ss j blank) (codes + 1)) ∙ l;
           same = with_code_nodes ss j (codes + 1) (omega arith) ∙ b.same;
           each = codes_new p ps f n ss j b.each jn is (codes + 1) (omega arith) (subst (Runs p n) (sym b.same) r) z (ap (λ v. v + 1) b.many);
           many = k.1 ∙ ap (λ v. v + 1) b.many ∙ sym (count_new p ps f n ss j b.each jn is z);
@@ -90,6 +109,7 @@ module _ (p : List ℕ) (ps : List (List ℕ)) (f : List ℕ) (n : ℕ) (N : ℕ
     | inr z ↦
         let k = m.old z in
         let d : Numbered p (ps ++ (f ∷ [])) n N ss codes' = record {
+          as_many = b.as_many;
           same = b.same;
           each = codes_old p ps f n ss j b.each jn is z;
           many = k.1 ∙ b.many ∙ sym (count_old p ps f n ss j b.each jn is z);
@@ -103,16 +123,28 @@ module _ (p : List ℕ) (ps : List (List ℕ)) (f : List ℕ) (n : ℕ) (N : ℕ
       out : Numbered p (ps ++ (f ∷ [])) n N ss' codes' → Numbered p (ps ++ (f ∷ [])) n N ss' codes' × ((get_or ss' j blank).code ≡ code (ps ++ (f ∷ [])) f)
       out d = (d, d.each j jn ∙ ap (code (ps ++ (f ∷ []))) (ap (λ (M : ℕ → Node). run p (M j)) d.same ∙ e))
 
--- one turn of the loop over the places
-module _ (p : List ℕ) (q a n : ℕ) (N : ℕ → Node) (places : List ℕ) (b : Built p q 0 q n N places) (some : 1 ≤ q) (inside : a + q ≤ length p)
-    (ss ss' : List State) (codes codes' : ℕ) (long : n ≤ length ss) (k : Numbered p (take a (figures q p)) n N ss codes) (m : CodeGiven (get_or places a 0) codes ss ss' codes') where
-  both : Numbered p (take a (figures q p) ++ (take q (drop a p) ∷ [])) n N ss' codes' × ((get_or ss' (get_or places a 0) blank).code ≡ code (take a (figures q p) ++ (take q (drop a p) ∷ [])) (take q (drop a p)))
-  both = let t = b.todo a (omega arith) inside in numbered_step p (take a (figures q p)) (take q (drop a p)) n N b.runs ss ss' (get_or places a 0) codes codes' t.in_table long t.run_is k m
+-- a place where a figure begins, and the state that stands there
+module _ (p : List ℕ) (q n : ℕ) (N : ℕ → Node) (places : List ℕ) (b : Built p q 0 q n N places) (a : ℕ) (h : a < length (take (length p + 1 - q) places)) where
+  pub within : a + q ≤ length p
+  within = let l = length-take (length p + 1 - q) places in omega arith
+
+  pub standing : Stands p n N q a (get_or (take (length p + 1 - q) places) a 0)
+  standing =
+      let w = within in
+      let is : get_or (take (length p + 1 - q) places) a 0 ≡ get_or places a 0 = grind (arith, common_steps) in
+      subst (Stands p n N q a) (sym is) (b.todo a (omega arith) w)
+
+-- one turn of the loop over the places: the state j that stands at the place a, and its code h
+module _ (p : List ℕ) (q a n : ℕ) (N : ℕ → Node) (j : ℕ) (r : Runs p n N) (t : Stands p n N q a j) (some : 1 ≤ q) (inside : a + q ≤ length p)
+    (ss ss' : List State) (codes codes' : ℕ) (k : Numbered p (take a (figures q p)) n N ss codes) (m : CodeGiven j codes ss ss' codes')
+    (h : ℕ) (is : h ≡ (get_or ss' j blank).code) where
+  both : Numbered p (take a (figures q p) ++ (take q (drop a p) ∷ [])) n N ss' codes' × ((get_or ss' j blank).code ≡ code (take a (figures q p) ++ (take q (drop a p) ∷ [])) (take q (drop a p)))
+  both = numbered_step p (take a (figures q p)) (take q (drop a p)) n N r ss ss' j codes codes' t.in_table t.run_is k m
 
   pub turn : Numbered p (take (a + 1) (figures q p)) n N ss' codes'
   turn = subst (λ v. Numbered p v n N ss' codes') (sym (figure_at q p a some inside)) both.0
 
-  pub turn_small : (get_or ss' (get_or places a 0) blank).code ≤ a + 1
+  pub turn_small : h ≤ a + 1
   turn_small =
       let c = both.1 in
       let d = code_small (take a (figures q p) ++ (take q (drop a p) ∷ [])) (take q (drop a p)) in
@@ -120,11 +152,10 @@ module _ (p : List ℕ) (q a n : ℕ) (N : ℕ → Node) (places : List ℕ) (b 
       let g = length-take a (figures q p) in
       omega arith
 
-  pub turn_counts : (counts : List ℕ) → Counts (take a (figures q p)) counts → (get_or ss' (get_or places a 0) blank).code < length counts
-      → Counts (take (a + 1) (figures q p)) (set counts (get_or ss' (get_or places a 0) blank).code (get_or counts (get_or ss' (get_or places a 0) blank).code 0 + 1))
+  pub turn_counts : (counts : List ℕ) → Counts (take a (figures q p)) counts → h < length counts → Counts (take (a + 1) (figures q p)) (set counts h (get_or counts h 0 + 1))
   turn_counts counts c l =
-      subst (λ v. Counts v (set counts (get_or ss' (get_or places a 0) blank).code (get_or counts (get_or ss' (get_or places a 0) blank).code 0 + 1))) (sym (figure_at q p a some inside))
-      (counts_step (take a (figures q p)) (take q (drop a p)) counts (get_or ss' (get_or places a 0) blank).code c both.1 l)
+      subst (λ v. Counts v (set counts h (get_or counts h 0 + 1))) (sym (figure_at q p a some inside))
+      (counts_step (take a (figures q p)) (take q (drop a p)) counts h c (is ∙ both.1) l)
 
 pub few_codes : (p : List ℕ) (q a n : ℕ) (N : ℕ → Node) (ss : List State) (codes : ℕ) → Numbered p (take a (figures q p)) n N ss codes → codes ≤ a
 few_codes p q a n N ss codes k =
@@ -140,9 +171,9 @@ few_counts p q a counts h c =
     let g = length-take a (figures q p) in
     omega arith
 
-pub numbered_start : (p : List ℕ) (n : ℕ) (ss : List State) → Uncoded ss → Numbered p [] n (nodes ss) ss 0
+pub numbered_start : (p : List ℕ) (ss : List State) → Uncoded ss → Numbered p [] (length ss) (nodes ss) ss 0
 unfolding code numbered different
-numbered_start p n ss u = record { same = refl; each = λ i h. u i; many = refl }
+numbered_start p ss u = record { as_many = refl; same = refl; each = u; many = refl }
 
 pub counts_start : (counts : List ℕ) → ((h : ℕ) → get_or counts h 0 ≡ 0) → Counts [] counts
 counts_start counts z h = z h ∙ sym (none h)

@@ -1,17 +1,24 @@
 -- The newest sounds are enough to remember the longest end.
-use Rattle.std.proofs.Common.{◌≡◌, ℕ, zero, suc, ◌+◌, ◌-◌, ◌^◌, ◌<◌, ◌≤◌, true, ltb, ◌⊎◌, List, [], ◌∷◌, ◌++◌, length, get_or, take, drop, set, sym, refl, ap, ◌∙◌, subst, ap₂, inl, inr, append_assoc, arith}
+use Rattle.std.proofs.Common.{◌≡◌, ℕ, zero, suc, ◌+◌, ◌-◌, ◌^◌, ◌<◌, ◌≤◌, true, ltb, ◌⊎◌, List, [], ◌∷◌, ◌++◌, length, get_or, take, drop, replicate, set, sym, refl, ap, ◌∙◌, subst, inl, inr, append_assoc, arith}
 use Rattle.std.proofs.lemmas.Bool.{cases_lt, cases_eq, and_parts, ltb-true, lt-ltb, le-ltb, lt-leb, le-leb}
-use Rattle.std.proofs.lemmas.List.{append-nil, length_push, length-take, length-drop, drop-append-le, drop-drop, drop-take, take_more, same_from_push, get_or-set_same, get_or-set_other, length-set, drop_all}
+use Rattle.std.proofs.lemmas.List.{append-nil, length_push, length-take, length-drop, drop-append-le, drop-drop, drop-take, take_more, same_from_push, get_or-set_same, get_or-set_other, drop_all, take_all}
 use Rattle.terms.specs.Figures.{figures, different}
 use Rattle.terms.specs.Marks.{newest}
 use Rattle.terms.specs.Codes.{code, heard}
 use Rattle.terms.specs.Reading.{Run, LongestEnd, remembered, answered}
 use Rattle.terms.proofs.Reading.{every_reader_lem}
 use Rattle.terms.specs.Refusals.{all_below_lem}
+use Rattle.terms.proofs.Runs.{length_figures}
 use Rattle.readers.specs.Window.{digits, slid, Tabled, Entered}
 use Rattle.readers.specs.Table.{Counts, most_places}
-use Rattle.readers.proofs.Digits.{length_digits, digits_same, digits_none}
+use Rattle.readers.proofs.Digits.{length_digits, digits_same}
+use Rattle.readers.proofs.Starts.{zeros}
+use Rattle.readers.specs.declared.scale.Scale.{Scale}
 use Rattle.readers.specs.declared.window.Window.{Window}
+use Rattle.readers.specs.declared.coder.Coder.{Coder}
+use Rattle.readers.specs.declared.tally.Tally.{Tally}
+use Rattle.readers.specs.Slides.{Slides}
+use Rattle.readers.specs.Sliding.{shown}
 use Rattle.readers.proofs.Coding.{code_old, code_other, unseen, seen, figure_at, code_small, different_small}
 use Rattle.readers.proofs.Naming.{counts_step, counts_start, few_counts}
 use Rattle.terms.proofs.Numbering.{different_new, different_old, code_next}
@@ -57,7 +64,7 @@ strange q c p r x all h = record {
         let n = s.1 in
         absurd (omega arith)
 
-nothing_heard : (q : ℕ) (p : List ℕ) → remembered q p [] ≡ []
+pub nothing_heard : (q : ℕ) (p : List ℕ) → remembered q p [] ≡ []
 unfolding remembered
 nothing_heard q p = refl
 
@@ -129,118 +136,166 @@ module _ (c q : ℕ) (ps : List (List ℕ)) (f : List ℕ) (codes : List ℕ) (n
   ]
 
   pub tabled_step : (codes' : List ℕ) (next next' : ℕ) → n < length codes → next ≡ length (different ps) → Entered n next codes codes' next'
-      → Tabled c q (ps ++ (f ∷ [])) codes' × (next' ≡ length (different (ps ++ (f ∷ [])))) × (length codes' ≡ length codes)
+      → Tabled c q (ps ++ (f ∷ [])) codes' × (next' ≡ length (different (ps ++ (f ∷ []))))
   tabled_step codes' next next' l e m = elim (cases_eq (get_or codes n 0) 0) [
     | inl k ↦
         let d = m.new k in (
           subst (Tabled c q (ps ++ (f ∷ []))) (sym d.0) (tabled_new (next + 1) l k (ap (λ v. v + 1) e)),
           d.1 ∙ ap (λ v. v + 1) e ∙ sym (ap length (different_new f ps (unseen ps f (sym code_here ∙ k))) ∙ length_push (different ps) f),
-          ap length d.0 ∙ length-set codes n (next + 1),
         )
     | inr k ↦
         let d = m.old k in (
           subst (Tabled c q (ps ++ (f ∷ []))) (sym d.0) (tabled_old k),
           d.1 ∙ e ∙ sym (ap length (different_old f ps (seen ps f (λ u. k (code_here ∙ u))))),
-          ap length d.0,
         )
   ]
 
--- one turn of the loop over the phrase: the window shows the figure at the place a
-pub record TabledTo (p : List ℕ) (c q a : ℕ) (codes counts : List ℕ) (next : ℕ) : Type 0 where
-  pub tabled : Tabled c q (take a (figures q p)) codes
-  pub counted : Counts (take a (figures q p)) counts
-  pub many : next ≡ length (different (take a (figures q p)))
-  pub long : length codes ≡ most_numbers
-  pub wide : length counts ≡ most_places
+-- the figures ps have their codes, and are counted
+pub record TabledTo (s : Scale) (ps : List (List ℕ)) (k : Coder) (t : Tally) : Type 0 where
+  pub tabled : Tabled s.base s.width ps k.codes
+  pub counted : Counts ps t.counts
+  pub many : k.given ≡ length (different ps)
 
-module _ (p : List ℕ) (c q a : ℕ) (codes counts : List ℕ) (next : ℕ) (k : TabledTo p c q a codes counts next) (z : 0 < c) (some : 1 ≤ q) (inside : a + q ≤ length p) (few : length p ≤ longest_phrase)
-    (n : ℕ) (nb : n < c ^ q) (small : c ^ q ≤ most_numbers) (is : digits c q n ≡ take q (drop a p)) (codes' : List ℕ) (next' : ℕ) (m : Entered n next codes codes' next') where
-  stepped : Tabled c q (take a (figures q p) ++ (take q (drop a p) ∷ [])) codes' × (next' ≡ length (different (take a (figures q p) ++ (take q (drop a p) ∷ [])))) × (length codes' ≡ length codes)
-  stepped = let l = k.long in tabled_step c q (take a (figures q p)) (take q (drop a p)) codes n z k.tabled nb is codes' next next' (omega arith) k.many m
+-- the loop over the phrase stands at the place i: the window shows the newest sounds, and the figures that end before i
+-- are tabled
+pub record ReadTo (p : List ℕ) (i : ℕ) (w : Window) (k : Coder) (t : Tally) : Type 0 where
+  pub below : all_below_lem w.scale.base p ≡ true
+  pub shows : shown w ≡ newest w.scale.width (take i p)
+  pub figured : TabledTo w.scale (take (i + 1 - w.scale.width) (figures w.scale.width p)) k t
 
-  entry_is : get_or codes' n 0 ≡ code (take a (figures q p) ++ (take q (drop a p) ∷ [])) (take q (drop a p))
-  entry_is = stepped.0 n nb ∙ ap (code (take a (figures q p) ++ (take q (drop a p) ∷ []))) is
+pub read_start : (p : List ℕ) (w : Window) (k : Coder) (t : Tally) → all_below_lem w.scale.base p ≡ true → shown w ≡ []
+    → k.codes ≡ replicate most_numbers 0 → k.given ≡ 0 → t.counts ≡ replicate most_places 0 → ReadTo p 0 w k t
+read_start p w k t all e f g h =
+    let q = w.scale.width in
+    let c = w.scale.base in
+    let s = w.scale.wide in
+    let z : 0 ≡ 0 + 1 - q = omega arith in
+    record {
+      below = all;
+      shows = e ∙ sym (drop_all (length {A = ℕ} [] - q) [] (omega arith));
+      figured = subst (λ v. TabledTo w.scale (take v (figures q p)) k t) z (record {
+        tabled = λ n b. ap (λ v. get_or v n 0) f ∙ zeros most_numbers n ∙ sym (code_none [] (digits c q n) (count_nil (digits c q n)));
+        counted = counts_start t.counts (λ n. ap (λ v. get_or v n 0) h ∙ zeros most_places n);
+        many = g ∙ (unfold different in refl);
+      });
+    }
 
-  pub entry_small : get_or codes' n 0 < most_places
-  entry_small =
-      let d = code_small (take a (figures q p) ++ (take q (drop a p) ∷ [])) (take q (drop a p)) in
-      let e = length_push (take a (figures q p)) (take q (drop a p)) in
-      let g = length-take a (figures q p) in
-      let h = entry_is in
+-- the sound at the place i is read
+module _ (p : List ℕ) (i : ℕ) (w w' : Window) (k : Coder) (t : Tally) (r : ReadTo p i w k t) (few : length p ≤ longest_phrase) (inside : i < length p)
+    (es : w'.scale ≡ w.scale) (ed : shown w' ≡ slid w.scale.base w.scale.width (shown w) (get_or p i 0)) where
+  abbrev c : ℕ
+  c = w'.scale.base
+
+  abbrev q : ℕ
+  q = w'.scale.width
+
+  abbrev done : List (List ℕ)
+  done = take (i + 1 - q) (figures q p)
+
+  below : all_below_lem c p ≡ true
+  below = subst (λ (s : Scale). all_below_lem s.base p ≡ true) (sym es) r.below
+
+  shows : shown w' ≡ newest q (take (i + 1) p)
+  shows =
+      ed ∙ ap (λ v. slid w.scale.base w.scale.width v (get_or p i 0)) r.shows ∙ slid_phrase w.scale.base w.scale.width p i r.below inside
+      ∙ ap (λ (s : Scale). newest s.width (take (i + 1) p)) (sym es)
+
+  figured : TabledTo w'.scale done k t
+  figured = subst (λ (s : Scale). TabledTo s (take (i + 1 - s.width) (figures s.width p)) k t) (sym es) r.figured
+
+  long : length (shown w') ≡ length (newest q (take (i + 1) p))
+  long = ap length shows
+
+  -- the window is not full
+  pub read_short : length (shown w') < q → ReadTo p (i + 1) w' k t
+  read_short h =
+      let l = long in
+      let d = length-drop (length (take (i + 1) p) - q) (take (i + 1) p) in
+      let m = length-take (i + 1) p in
+      let z : i + 1 - q ≡ i + 1 + 1 - q = omega arith in
+      record { below = below; shows = shows; figured = subst (λ v. TabledTo w'.scale (take v (figures q p)) k t) z figured }
+
+  pub few_given : k.given ≤ longest_phrase
+  few_given =
+      let e = figured.many in
+      let d = different_small done in
+      let g = length-take (i + 1 - q) (figures q p) in
       omega arith
 
-  pub tabled_on : TabledTo p c q (a + 1) codes' (set counts (get_or codes' n 0) (get_or counts (get_or codes' n 0) 0 + 1)) next'
-  tabled_on =
-      let w = k.wide in
-      let s = entry_small in
-      record {
-        tabled = subst (λ v. Tabled c q v codes') (sym (figure_at q p a some inside)) stepped.0;
-        counted = subst (λ v. Counts v (set counts (get_or codes' n 0) (get_or counts (get_or codes' n 0) 0 + 1))) (sym (figure_at q p a some inside))
-            (counts_step (take a (figures q p)) (take q (drop a p)) counts (get_or codes' n 0) k.counted entry_is (omega arith));
-        many = stepped.1 ∙ ap (λ v. length (different v)) (sym (figure_at q p a some inside));
-        long = stepped.2 ∙ k.long;
-        wide = length-set counts _ _ ∙ k.wide;
-      }
+  -- it is full, and shows the number n
+  module _ (n : ℕ) (nb : n < c ^ q) (is : digits c q n ≡ shown w') where
+    pub number_small : n < most_numbers
+    number_small = let s = w'.scale.small in omega arith
 
-pub tabled_start : (p : List ℕ) (c q : ℕ) (codes counts : List ℕ) → ((h : ℕ) → get_or codes h 0 ≡ 0) → ((h : ℕ) → get_or counts h 0 ≡ 0) → length codes ≡ most_numbers → length counts ≡ most_places → TabledTo p c q 0 codes counts 0
-tabled_start p c q codes counts a b l w = record {
-  tabled = λ n h. a n ∙ sym (none (digits c q n));
-  counted = counts_start counts b;
-  many = unfold different in refl;
-  long = l;
-  wide = w;
-}
-  where
-    none : (v : List ℕ) → code [] v ≡ 0
-    none v = code_none [] v (count_nil v)
+    whole : q ≤ i + 1
+    whole =
+        let l = ap length is ∙ long in
+        let e = length_digits c q n in
+        let d = length-drop (length (take (i + 1) p) - q) (take (i + 1) p) in
+        let m = length-take (i + 1) p in
+        let z = w'.scale.wide in
+        omega arith
 
-pub tabled_few : (p : List ℕ) (c q a : ℕ) (codes counts : List ℕ) (next : ℕ) → TabledTo p c q a codes counts next → (next ≤ a) × ((h : ℕ) → get_or counts h 0 ≤ a)
-tabled_few p c q a codes counts next k = (
-  (let e = k.many in let d = different_small (take a (figures q p)) in let g = length-take a (figures q p) in omega arith),
-  λ h. few_counts p q a counts h k.counted,
-)
+    abbrev figure : List ℕ
+    figure = take q (drop (i + 1 - q) p)
 
--- a window in base c, q wide, that shows the newest of the first i sounds of the phrase
-pub record Shown (p : List ℕ) (c q i : ℕ) (w : Window) : Type 0 where
-  pub base_is : w.base ≡ c
-  pub width_is : w.width ≡ q
-  pub shows : digits w.base w.heard w.number ≡ newest q (take i p)
+    is_figure : digits c q n ≡ figure
+    is_figure =
+        let z = whole in
+        let e : i + 1 ≡ i + 1 - q + q = omega arith in
+        is ∙ shows ∙ ap (λ v. newest q (take v p)) e ∙ newest_figure q p (i + 1 - q) (omega arith)
 
-pub shown_start : (p : List ℕ) (w : Window) → w.heard ≡ 0 → Shown p w.base w.width 0 w
-shown_start p w e = record {
-  base_is = refl;
-  width_is = refl;
-  shows = ap (λ v. digits w.base v w.number) e ∙ digits_none w.base w.number ∙ sym (drop_all (length {A = ℕ} [] - w.width) [] (omega arith));
-}
+    next_is : take (i + 1 + 1 - q) (figures q p) ≡ done ++ (figure ∷ [])
+    next_is =
+        let z = whole in
+        let e : i + 1 + 1 - q ≡ i + 1 - q + 1 = omega arith in
+        ap (λ v. take v (figures q p)) e ∙ figure_at q p (i + 1 - q) w'.scale.wide (omega arith)
 
-pub shown_slide : (p : List ℕ) (c q i : ℕ) (w w' : Window) → Shown p c q i w → all_below_lem c p ≡ true → i < length p → w'.base ≡ w.base → w'.width ≡ w.width
-    → digits w'.base w'.heard w'.number ≡ slid w.base w.width (digits w.base w.heard w.number) (get_or p i 0) → Shown p c q (i + 1) w'
-shown_slide p c q i w w' s all h eb ew ed = record {
-  base_is = eb ∙ s.base_is;
-  width_is = ew ∙ s.width_is;
-  shows = ed ∙ ap₂ (λ u v. slid u v (digits w.base w.heard w.number) (get_or p i 0)) s.base_is s.width_is ∙ ap (λ v. slid c q v (get_or p i 0)) s.shows ∙ slid_phrase c q p i all h;
-}
+    -- the number has its code now
+    module _ (k' : Coder) (m : Entered n k.given k.codes k'.codes k'.given) where
+      stepped : Tabled c q (done ++ (figure ∷ [])) k'.codes × (k'.given ≡ length (different (done ++ (figure ∷ []))))
+      stepped =
+          let l = k.long in
+          let s = number_small in
+          tabled_step c q done figure k.codes n w'.scale.based figured.tabled nb is_figure k'.codes k.given k'.given (omega arith) figured.many m
 
-module _ (p : List ℕ) (c q a : ℕ) (w : Window) (s : Shown p c q (a + q) w) (h : a + q ≤ length p) where
-  shown_heard : w.heard ≡ q
-  shown_heard =
-      let l = length_digits w.base w.heard w.number in
-      let e = ap length (s.shows ∙ newest_figure q p a h) in
-      let d = length-drop a p in
-      let t = length-take q (drop a p) in
-      omega arith
+      entry_is : get_or k'.codes n 0 ≡ code (done ++ (figure ∷ [])) figure
+      entry_is = stepped.0 n nb ∙ ap (code (done ++ (figure ∷ []))) is_figure
 
-  pub shown_below : w.number < c ^ q
-  shown_below = subst (λ v. w.number < v ^ q) s.base_is (subst (λ v. w.number < w.base ^ v) shown_heard w.below)
+      pub code_in_places : get_or k'.codes n 0 < most_places
+      code_in_places =
+          let d = code_small (done ++ (figure ∷ [])) figure in
+          let e = length_push done figure in
+          let g = length-take (i + 1 - q) (figures q p) in
+          let h = entry_is in
+          let z = w'.scale.wide in
+          omega arith
 
-  pub shown_small : c ^ q ≤ most_numbers
-  shown_small = subst (λ v. v ^ q ≤ most_numbers) s.base_is (subst (λ v. w.base ^ v ≤ most_numbers) s.width_is w.small)
+      pub few_counted : (h : ℕ) → get_or t.counts h 0 ≤ longest_phrase
+      few_counted h = let e = few_counts p q (i + 1 - q) t.counts h figured.counted in let z = w'.scale.wide in omega arith
 
-  pub shown_figure : digits c q w.number ≡ take q (drop a p)
-  shown_figure = sym (ap₂ (λ u v. digits u v w.number) s.base_is shown_heard) ∙ s.shows ∙ newest_figure q p a h
+      pub read_full : (t' : Tally) → t'.counts ≡ set t.counts (get_or k'.codes n 0) (get_or t.counts (get_or k'.codes n 0) 0 + 1) → ReadTo p (i + 1) w' k' t'
+      read_full t' e =
+          let l = t.long in
+          let s = code_in_places in
+          record {
+            below = below;
+            shows = shows;
+            figured = subst (λ v. TabledTo w'.scale v k' t') (sym next_is) (record {
+              tabled = stepped.0;
+              counted = subst (Counts (done ++ (figure ∷ []))) (sym e) (counts_step done figure t.counts (get_or k'.codes n 0) figured.counted entry_is (omega arith));
+              many = stepped.1;
+            });
+          }
 
-pub slid_on : (p : List ℕ) (c q a : ℕ) (w w' : Window) → Shown p c q (a + (q - 1)) w → 1 ≤ q → all_below_lem c p ≡ true → a + q ≤ length p → w'.base ≡ w.base → w'.width ≡ w.width
-    → digits w'.base w'.heard w'.number ≡ slid w.base w.width (digits w.base w.heard w.number) (get_or p (a + (q - 1)) 0) → Shown p c q (a + q) w'
-slid_on p c q a w w' s some all h eb ew ed =
-    let e : (a + (q - 1)) + 1 ≡ a + q = omega arith in
-    subst (λ v. Shown p c q v w') e (shown_slide p c q (a + (q - 1)) w w' s all (omega arith) eb ew ed)
+-- the whole phrase is read
+pub read_all : (p : List ℕ) (i : ℕ) (w : Window) (k : Coder) (t : Tally) → ReadTo p i w k t → length p ≤ i → Slides p w.scale k t
+read_all p i w k t r h =
+    let q = w.scale.width in
+    let l = length_figures q p w.scale.wide in
+    let e : take (i + 1 - q) (figures q p) ≡ figures q p = take_all (i + 1 - q) (figures q p) (omega arith) in
+    record {
+      below = r.below;
+      tabled = subst (λ v. Tabled w.scale.base q v k.codes) e r.figured.tabled;
+      counted = subst (λ v. Counts v t.counts) e r.figured.counted;
+    }

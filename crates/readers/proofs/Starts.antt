@@ -1,21 +1,9 @@
 -- The table of the empty run alone, and how many states there are at most.
-use Rattle.std.proofs.Common.{◌≡◌, ℕ, zero, suc, ◌+◌, ◌-◌, ◌<◌, ◌≤◌, List, get_or, take, drop, replicate, refl, ap, ◌∙◌, subst, inl, inr, add-one, arith}
+use Rattle.std.proofs.Common.{◌≡◌, ℕ, zero, suc, ◌+◌, ◌-◌, ◌<◌, ◌≤◌, List, [], ◌∷◌, get_or, take, drop, replicate, refl, ap, ◌∙◌, subst, inl, inr, add-one, arith}
 use Rattle.std.proofs.lemmas.Bool.{cases_lt}
 use Rattle.std.proofs.lemmas.List.{get_or-replicate, get_or_past, length-replicate}
-use Rattle.readers.specs.Table.{Node, Tree, Built, run, most, Uncoded, blank}
-use Rattle.readers.specs.declared.state.State.{State}
+use Rattle.readers.specs.Table.{Node, Built, run, most, Uncoded, blank}
 use Rattle.terms.specs.Limits.{longest_phrase, most_states, longest_figure}
-
-pub tree_start : (N : ℕ → Node) → (N 0).child ≡ 0 → Tree 1 N
-tree_start N e = record {
-  parent_in = λ i z h. absurd (omega arith);
-  first_in = λ i h. let d : i ≡ 0 = omega arith in let f = ap (λ v. (N v).child) d in omega arith;
-  first_of = λ i h z. let d : i ≡ 0 = omega arith in let f = ap (λ v. (N v).child) d in absurd (omega arith);
-  first_most = λ i z h. absurd (omega arith);
-  next_in = λ i z h. absurd (omega arith);
-  next_of = λ i z h. absurd (omega arith);
-  next_most = λ i k z h l. absurd (omega arith);
-}
 
 pub built_start : (p : List ℕ) (N : ℕ → Node) (places : List ℕ) → (N 0).at ≡ 0 → (N 0).len ≡ 0 → ((b : ℕ) → get_or places b 0 ≡ 0) → Built p 0 0 0 1 N places
 built_start p N places a e f = record {
@@ -63,8 +51,6 @@ room l h = most_below (suc l) h
 pub most_more : (l : ℕ) → most (l + 1) ≡ most l + (longest_phrase - l)
 most_more l = ap most (add-one l)
 
-pub uncoded_start : (n : ℕ) → Uncoded (replicate n blank)
-uncoded_start n b = elim (cases_lt b n) [
-  | inl h ↦ ap (λ (v : State). v.code) (get_or-replicate n b blank blank h)
-  | inr h ↦ ap (λ (v : State). v.code) (get_or_past (replicate n blank) b blank (let k = length-replicate n blank in omega arith))
-]
+pub uncoded_start : Uncoded (blank ∷ [])
+uncoded_start zero h = refl
+uncoded_start (suc k) h = absurd (omega arith)

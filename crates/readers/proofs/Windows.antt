@@ -1,52 +1,92 @@
--- What a sliding reader means, by its window.
-use Rattle.std.proofs.Common.{◌≡◌, ℕ, ◌^◌, ◌<◌, ◌≤◌, List, [], get_or, sym, refl, ap, ◌∙◌, subst, ap₂, arith}
+-- A window slides, and what a sliding reader then means.
+use Rattle.std.proofs.Common.{◌≡◌, ℕ, ◌+◌, ◌*◌, ◌%◌, ◌^◌, ◌<◌, ◌≤◌, ◌==◌, min, List, [], ◌∷◌, ◌++◌, length, get_or, Some, None, Option, sym, ap, ◌∙◌, subst, inl, inr, arith}
+use Rattle.std.specs.Bool.{then_some}
+use Rattle.std.proofs.lemmas.Bool.{cases_lt, cases_eq, eq-eqb, ne_eqb}
 use Rattle.terms.specs.Figures.{figures}
 use Rattle.terms.specs.Codes.{code}
-use Rattle.terms.specs.Reading.{remembered, answered}
+use Rattle.terms.specs.Reading.{LongestEnd, remembered, answered}
+use Rattle.terms.proofs.Reading.{every_reader_lem}
+use Rattle.readers.specs.declared.scale.Scale.{Scale}
 use Rattle.readers.specs.declared.window.Window.{Window}
-use Rattle.readers.specs.Memory.{held, meant, Hears, forgotten}
-use Rattle.readers.specs.Window.{digits, slid, Slides}
+use Rattle.readers.specs.declared.coder.Coder.{Coder}
+use Rattle.readers.specs.declared.tally.Tally.{Tally}
+use Rattle.readers.specs.Memory.{held, Hears, with_phrase}
+use Rattle.readers.specs.Window.{digits, slid, Filled}
+use Rattle.readers.specs.Slides.{Slides}
 use Rattle.readers.specs.Sliding.{shown}
-use Rattle.readers.proofs.Digits.{length_digits, digits_none}
-use Rattle.readers.specs.Meant.{hear_held, forget_is, meant_held}
-use Rattle.readers.proofs.Slidings.{slid_remembered, answer_short, answer_full}
+use Rattle.readers.proofs.Digits.{length_digits, fits, below_more, slid_more, slid_full}
+use Rattle.readers.proofs.Slidings.{nothing_heard, slid_remembered, answer_short, answer_full}
 
-pub slides_moved : (p : List ℕ) (c c' q q' : ℕ) (codes counts : List ℕ) → c' ≡ c → q' ≡ q → Slides p c q codes counts → Slides p c' q' codes counts
-slides_moved p c c' q q' codes counts e f s = subst (λ v. Slides p v q' codes counts) (sym e) (subst (λ v. Slides p c v codes counts) (sym f) s)
+-- a sound below the base slides in: a digit more, or the newest digits
+module _ (w : Window) (x h : ℕ) (d : x < w.scale.base) (e : h ≡ min (w.heard + 1) w.scale.width) where
+  pub below_on : w.number % w.scale.power * w.scale.base + x < w.scale.base ^ h
+  below_on =
+      let s = w.scale in
+      elim (cases_lt w.heard s.width) [
+        | inl m ↦
+            let g : h ≡ w.heard + 1 = omega arith in
+            rw g (below_more s.base s.width s.power w.number w.heard x s.based m s.powered w.below d)
+        | inr m ↦
+            let f = w.full in
+            let g : h ≡ s.width = omega arith in
+            rw g (fits s.base s.width s.power w.number x s.based s.wide s.powered d)
+      ]
 
-module _ (m : ℕ) (p codes counts : List ℕ) (w w' : Window) (x : ℕ) (z : m ≡ 0 → ⊥) (s : Slides p w.base w.width codes counts) (eb : w'.base ≡ w.base) (ew : w'.width ≡ w.width)
-    (ed : shown w' ≡ slid w.base w.width (shown w) x) where
-  hears_slid : (a : ℕ) → a ≡ answered w.width p (remembered w.width p (shown w'))
-      → Hears (meant m p w.width (remembered w.width p (shown w))) x (meant m p w'.width (remembered w'.width p (shown w'))) a
+  pub slid_on : digits w.scale.base h (w.number % w.scale.power * w.scale.base + x) ≡ slid w.scale.base w.scale.width (shown w) x
+  slid_on =
+      let s = w.scale in
+      elim (cases_lt w.heard s.width) [
+        | inl m ↦
+            let g : h ≡ w.heard + 1 = omega arith in
+            rw g (slid_more s.base s.width s.power w.number w.heard x s.based m s.powered w.below d)
+        | inr m ↦
+            let f = w.full in
+            let g : h ≡ w.heard = omega arith in
+            rw g (slid_full s.base s.width s.power w.number w.heard x s.based s.wide f m s.powered d)
+      ]
+
+-- a window of h sounds answers its number where it is full
+pub filled_by : (c w h n : ℕ) (r : Option ℕ) → h ≤ w → n < c ^ h → r ≡ then_some (h == w) n → Filled c w (digits c h n) r
+filled_by c w h n r l b e = elim (cases_eq h w) [
+  | inl f ↦
+      let g : r ≡ Some n = e ∙ ap (λ v. then_some v n) (eq-eqb h w f) in
+      subst (Filled c w (digits c h n)) (sym g) (subst (λ v. n < c ^ v) f b, ap (λ v. digits c v n) (sym f))
+  | inr f ↦
+      let g : r ≡ None = e ∙ ap (λ v. then_some v n) (ne_eqb h w f) in
+      subst (Filled c w (digits c h n)) (sym g) (let d = length_digits c h n in omega arith)
+]
+
+module _ (p : List ℕ) (k : Coder) (t : Tally) (w w' : Window) (x : ℕ) (s : Slides p w.scale k t) (es : w'.scale ≡ w.scale)
+    (ed : shown w' ≡ slid w.scale.base w.scale.width (shown w) x) where
+  slides_on : Slides p w'.scale k t
+  slides_on = subst (λ v. Slides p v k t) (sym es) s
+
+  hears_slid : (a : ℕ) → a ≡ answered w'.scale.width p (remembered w'.scale.width p (shown w'))
+      → Hears (held p w.scale.width (remembered w.scale.width p (shown w))) x (held p w'.scale.width (remembered w'.scale.width p (shown w'))) a
   hears_slid a e =
-      subst (λ v. Hears (meant m p w.width (remembered w.width p (shown w))) x (meant m p v (remembered v p (shown w'))) a) (sym ew)
-      (hear_held m p w.width (remembered w.width p (shown w)) (remembered w.width p (shown w')) x a z
-      (ap (remembered w.width p) ed ∙ slid_remembered w.width w.base p (shown w) x s.below) e)
+      let q = w'.scale.width in
+      let f : q ≡ w.scale.width = ap (λ (s : Scale). s.width) es in
+      let r : remembered w.scale.width p (shown w') ≡ remembered w.scale.width p (remembered w.scale.width p (shown w) ++ (x ∷ [])) =
+      ap (remembered w.scale.width p) ed ∙ slid_remembered w.scale.width w.scale.base p (shown w) x s.below in
+      let l : LongestEnd w.scale.width p (remembered w.scale.width p (shown w) ++ (x ∷ [])) (remembered w.scale.width p (shown w')) =
+      subst (LongestEnd w.scale.width p _) (sym r) ((every_reader_lem w.scale.width p).found _) in
+      subst (λ v. Hears (held p w.scale.width (remembered w.scale.width p (shown w))) x (held p v (remembered v p (shown w'))) a) (sym f)
+      (with_phrase l (subst (λ v. a ≡ answered v p (remembered v p (shown w'))) f e))
 
-  pub hears_short : w'.heard < w'.width → Hears (meant m p w.width (remembered w.width p (shown w))) x (meant m p w'.width (remembered w'.width p (shown w'))) 0
-  hears_short h =
-      let l = length_digits w'.base w'.heard w'.number in
-      hears_slid 0 (answer_short w.width p (shown w') (omega arith))
+  pub hears_short : length (shown w') < w'.scale.width
+      → Hears (held p w.scale.width (remembered w.scale.width p (shown w))) x (held p w'.scale.width (remembered w'.scale.width p (shown w'))) 0
+  hears_short h = hears_slid 0 (answer_short w'.scale.width p (shown w') h)
 
-  pub hears_full : w'.width ≤ w'.heard → Hears (meant m p w.width (remembered w.width p (shown w))) x (meant m p w'.width (remembered w'.width p (shown w'))) (get_or codes w'.number 0)
-  hears_full h =
-      let l = length_digits w'.base w'.heard w'.number in
-      let f = w'.full in
-      let e : w'.heard ≡ w.width = omega arith in
-      let b : w'.number < w.base ^ w.width = subst (λ v. w'.number < v ^ w.width) eb (subst (λ v. w'.number < w'.base ^ v) e w'.below) in
-      let d : digits w.base w.width w'.number ≡ shown w' = sym (ap₂ (λ u v. digits u v w'.number) eb e) in
-      hears_slid (get_or codes w'.number 0) (s.tabled w'.number b ∙ ap (code (figures w.width p)) d ∙ answer_full w.width p (shown w') (omega arith))
+  pub hears_full : (n : ℕ) → n < w'.scale.base ^ w'.scale.width → digits w'.scale.base w'.scale.width n ≡ shown w'
+      → Hears (held p w.scale.width (remembered w.scale.width p (shown w))) x (held p w'.scale.width (remembered w'.scale.width p (shown w'))) (get_or k.codes n 0)
+  hears_full n b d =
+      let q = w'.scale.width in
+      let l = length_digits w'.scale.base q n in
+      let m = ap length d in
+      hears_slid (get_or k.codes n 0) (slides_on.tabled n b ∙ ap (code (figures q p)) d ∙ answer_full q p (shown w') (omega arith))
 
-empty_end : (q : ℕ) (p : List ℕ) (w : Window) → w.heard ≡ 0 → remembered q p (shown w) ≡ []
-empty_end q p w e = ap (λ v. remembered q p (digits w.base v w.number)) e ∙ ap (remembered q p) (digits_none w.base w.number) ∙ nothing_heard
-  where
-    nothing_heard : remembered q p [] ≡ []
-    nothing_heard = unfold remembered in refl
-
-pub forget_window : (m : ℕ) (p : List ℕ) (w w' : Window) → w'.width ≡ w.width → w'.heard ≡ 0 → meant m p w'.width (remembered w'.width p (shown w')) ≡ forgotten (meant m p w.width (remembered w.width p (shown w)))
-forget_window m p w w' ew e =
-    ap (λ v. meant m p v (remembered v p (shown w'))) ew ∙ forget_is m p w.width (remembered w.width p (shown w)) (remembered w.width p (shown w')) (λ z. empty_end w.width p w' e)
-
-pub load_window : (m : ℕ) (p ph : List ℕ) (q : ℕ) (w : Window) → (m ≡ 0 → ⊥) → p ≡ ph → w.width ≡ q → w.heard ≡ 0 → meant m p w.width (remembered w.width p (shown w)) ≡ held ph q []
-load_window m p ph q w z e f g =
-    meant_held m p w.width (remembered w.width p (shown w)) z ∙ ap (held p w.width) (empty_end w.width p w g) ∙ ap₂ (λ u v. held u v []) e f
+-- an empty window remembers nothing
+pub memory_empty : (p : List ℕ) (s : Scale) (w : Window) → w.scale ≡ s → shown w ≡ [] → held p w.scale.width (remembered w.scale.width p (shown w)) ≡ held p s.width []
+memory_empty p s w es e =
+    ap (λ v. held p w.scale.width (remembered w.scale.width p v)) e ∙ ap (held p w.scale.width) (nothing_heard w.scale.width p)
+    ∙ ap (λ (t : Scale). held p t.width []) es

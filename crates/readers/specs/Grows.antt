@@ -1,8 +1,8 @@
 -- A table with one more state.
-use Rattle.std.specs.Prelude.{◌≡◌, ℕ, ◌+◌, ◌<◌, ◌≤◌, ◌≢◌, ◌⊎◌, List, length, get_or, slice_index_or, slice_set, refl}
+use Rattle.std.specs.Prelude.{◌≡◌, ℕ, ◌+◌, ◌<◌, ◌≤◌, ◌≢◌, ◌⊎◌, List, [], ◌∷◌, length, get_or, slice_index_or, slice_set, refl}
 use Rattle.std.proofs.Common.{sym, ap, subst, ◌∙◌, inl, inr, arith}
 use Rattle.std.proofs.lemmas.Bool.{cases_eq, cases_lt}
-use Rattle.std.proofs.lemmas.List.{get_or-set_same, get_or-set_other, length-set}
+use Rattle.std.proofs.lemmas.List.{get_or-set_same, get_or-set_other, length-set, length_push, get_or_push, get_or_append_left}
 use Rattle.readers.specs.declared.state.State.{State}
 use Rattle.readers.specs.Table.{Node, node, nodes, blank, with_child, grown, Tree, Uncoded}
 
@@ -99,7 +99,7 @@ module _ (n i : ℕ) (s : Node) (N N' : ℕ → Node) (g : Grown n i s N N') (t 
       let f = ap (λ v. (N' v).next) h ∙ new_next in
       omega arith
 
-  pub tree_grown : Tree (n + 1) N'
+  tree_grown : Tree (n + 1) N'
   tree_grown = record {
     parent_in = λ j z h. parent_in j z (up n j h);
     first_in = λ j h. first_in j (up n j h);
@@ -110,51 +110,67 @@ module _ (n i : ℕ) (s : Node) (N N' : ℕ → Node) (g : Grown n i s N N') (t 
     next_most = λ j k z l h. next_most j k z l (up n k h);
   }
 
-pub grown_new : (ss : List State) (n i : ℕ) (s : State) → n < length ss → slice_index_or (grown ss n i s) n blank ≡ s
-grown_new ss n i s ln =
-    let k = length-set ss i (with_child (slice_index_or ss i blank) n) in
-    get_or-set_same (slice_set ss i (with_child (slice_index_or ss i blank) n)) n s blank (omega arith)
+-- the states with the new one linked to its parent
+abbrev linked : List State → ℕ → List State
+linked ss i = slice_set ss i (with_child (slice_index_or ss i blank) (length ss))
 
-pub grown_here : (ss : List State) (n i : ℕ) (s : State) → i < n → n < length ss → slice_index_or (grown ss n i s) i blank ≡ with_child (slice_index_or ss i blank) n
-grown_here ss n i s li ln =
-    let ne : i ≢ n = λ e. omega arith in
-    get_or-set_other (slice_set ss i (with_child (slice_index_or ss i blank) n)) n i s blank ne ∙ get_or-set_same ss i (with_child (slice_index_or ss i blank) n) blank (omega arith)
+pub length_grown : (ss : List State) (i : ℕ) (s : State) → length (grown ss i s) ≡ length ss + 1
+length_grown ss i s = length_push (linked ss i) s ∙ ap (λ v. v + 1) (length-set ss i (with_child (slice_index_or ss i blank) (length ss)))
 
-pub grown_other : (ss : List State) (n i : ℕ) (s : State) (k : ℕ) → (k ≢ n) → (k ≢ i) → slice_index_or (grown ss n i s) k blank ≡ slice_index_or ss k blank
-grown_other ss n i s k a b = get_or-set_other (slice_set ss i (with_child (slice_index_or ss i blank) n)) n k s blank a ∙ get_or-set_other ss i k (with_child (slice_index_or ss i blank) n) blank b
+grown_new : (ss : List State) (i : ℕ) (s : State) → slice_index_or (grown ss i s) (length ss) blank ≡ s
+grown_new ss i s = get_or_push (linked ss i) s blank (length ss) (length-set ss i (with_child (slice_index_or ss i blank) (length ss)))
 
-pub grown_is : (ss : List State) (n i : ℕ) (s : State) → i < n → n < length ss → s.parent ≡ i → s.child ≡ 0 → s.next ≡ (get_or ss i blank).child
-    → Grown n i (node s) (nodes ss) (nodes (grown ss n i s))
-grown_is ss n i s li ln p c x = record {
+grown_old : (ss : List State) (i : ℕ) (s : State) (k : ℕ) → k < length ss → slice_index_or (grown ss i s) k blank ≡ slice_index_or (linked ss i) k blank
+grown_old ss i s k h =
+    let l = length-set ss i (with_child (slice_index_or ss i blank) (length ss)) in
+    get_or_append_left (linked ss i) (s ∷ []) blank k (omega arith)
+
+grown_here : (ss : List State) (i : ℕ) (s : State) → i < length ss → slice_index_or (grown ss i s) i blank ≡ with_child (slice_index_or ss i blank) (length ss)
+grown_here ss i s h = grown_old ss i s i h ∙ get_or-set_same ss i (with_child (slice_index_or ss i blank) (length ss)) blank h
+
+grown_other : (ss : List State) (i : ℕ) (s : State) (k : ℕ) → k < length ss → (k ≢ i) → slice_index_or (grown ss i s) k blank ≡ slice_index_or ss k blank
+grown_other ss i s k h e = grown_old ss i s k h ∙ get_or-set_other ss i k (with_child (slice_index_or ss i blank) (length ss)) blank e
+
+same_but_child : (a b c : State) → a ≡ b → (j : ℕ) → b ≡ with_child c j → Alike (node a) (node c)
+same_but_child a b c e j f = record {
+  at = ap (λ (v : State). v.at) (e ∙ f);
+  len = ap (λ (v : State). v.len) (e ∙ f);
+  sound = ap (λ (v : State). v.sound) (e ∙ f);
+  parent = ap (λ (v : State). v.parent) (e ∙ f);
+  shorter = ap (λ (v : State). v.shorter) (e ∙ f);
+  next = ap (λ (v : State). v.next) (e ∙ f);
+}
+
+grown_alike : (ss : List State) (i : ℕ) (s : State) → i < length ss → (k : ℕ) → k < length ss → Alike (nodes (grown ss i s) k) (nodes ss k)
+grown_alike ss i s li k h = elim (cases_eq k i) [
+  | inl e ↦ subst (λ v. Alike (nodes (grown ss i s) v) (nodes ss v)) (sym e) (same_but_child _ _ (slice_index_or ss i blank) (grown_here ss i s li) (length ss) refl)
+  | inr e ↦ same_but_child _ _ (slice_index_or ss k blank) (grown_other ss i s k h e) (get_or ss k blank).child refl
+]
+
+pub grown_is : (ss : List State) (i : ℕ) (s : State) → i < length ss → s.parent ≡ i → s.child ≡ 0 → s.next ≡ (get_or ss i blank).child
+    → Grown (length ss) i (node s) (nodes ss) (nodes (grown ss i s))
+grown_is ss i s li p c x = record {
   under = li;
-  alike = λ k h. al k h (cases_eq k i);
-  here = ap (λ (v : State). v.child) (grown_here ss n i s li ln);
-  other = λ k h e. ap (λ (v : State). v.child) (grown_other ss n i s k (λ d. omega arith) e);
-  new = ap node (grown_new ss n i s ln);
+  alike = grown_alike ss i s li;
+  here = ap (λ (v : State). v.child) (grown_here ss i s li);
+  other = λ k h e. ap (λ (v : State). v.child) (grown_other ss i s k h e);
+  new = ap node (grown_new ss i s);
   parent_is = p;
   child_is = c;
   next_is = x;
 }
-  where
-    refl_alike : (a b c : State) → a ≡ b → (j : ℕ) → b ≡ with_child c j → Alike (node a) (node c)
-    refl_alike a b c e j f = record {
-      at = ap (λ (v : State). v.at) (e ∙ f);
-      len = ap (λ (v : State). v.len) (e ∙ f);
-      sound = ap (λ (v : State). v.sound) (e ∙ f);
-      parent = ap (λ (v : State). v.parent) (e ∙ f);
-      shorter = ap (λ (v : State). v.shorter) (e ∙ f);
-      next = ap (λ (v : State). v.next) (e ∙ f);
-    }
 
-    al : (k : ℕ) → k < n → (k ≡ i) ⊎ (k ≢ i) → Alike (nodes (grown ss n i s) k) (nodes ss k)
-    al k h (inl e) = subst (λ v. Alike (nodes (grown ss n i s) v) (nodes ss v)) (sym e) (refl_alike _ _ (slice_index_or ss i blank) (grown_here ss n i s li ln) n refl)
-    al k h (inr e) = refl_alike _ _ (slice_index_or ss k blank) (grown_other ss n i s k (λ d. omega arith) e) (get_or ss k blank).child refl
+-- the facts of a table stay true
+pub grown_tree : (ss : List State) (i : ℕ) (s : State) → i < length ss → s.parent ≡ i → s.child ≡ 0 → s.next ≡ (get_or ss i blank).child → Tree (length ss) (nodes ss)
+    → Tree (length (grown ss i s)) (nodes (grown ss i s))
+grown_tree ss i s li p c x t =
+    subst (λ n. Tree n (nodes (grown ss i s))) (sym (length_grown ss i s)) (tree_grown (length ss) i (node s) (nodes ss) (nodes (grown ss i s)) (grown_is ss i s li p c x) t)
 
-pub uncoded_grown : (ss : List State) (n i : ℕ) (s : State) → n < length ss → i < n → s.code ≡ 0 → Uncoded ss → Uncoded (grown ss n i s)
-uncoded_grown ss n i s ln li e u k = elim (cases_eq k n) [
-  | inl a ↦ ap (λ v. (get_or (grown ss n i s) v blank).code) a ∙ ap (λ (v : State). v.code) (grown_new ss n i s ln) ∙ e
-  | inr a ↦ elim (cases_eq k i) [
-    | inl b ↦ ap (λ v. (get_or (grown ss n i s) v blank).code) b ∙ ap (λ (v : State). v.code) (grown_here ss n i s li ln) ∙ u i
-    | inr b ↦ ap (λ (v : State). v.code) (grown_other ss n i s k a b) ∙ u k
+pub uncoded_grown : (ss : List State) (i : ℕ) (s : State) → i < length ss → s.code ≡ 0 → Uncoded ss → Uncoded (grown ss i s)
+uncoded_grown ss i s li e u k h = elim (up (length ss) k (let l = length_grown ss i s in omega arith)) [
+  | inr a ↦ ap (λ v. (get_or (grown ss i s) v blank).code) a ∙ ap (λ (v : State). v.code) (grown_new ss i s) ∙ e
+  | inl a ↦ elim (cases_eq k i) [
+    | inl b ↦ ap (λ v. (get_or (grown ss i s) v blank).code) b ∙ ap (λ (v : State). v.code) (grown_here ss i s li) ∙ u i li
+    | inr b ↦ ap (λ (v : State). v.code) (grown_other ss i s k a b) ∙ u k a
   ]
 ]

@@ -3,11 +3,13 @@ pub mod Judging
 pub mod Table
 pub mod States
 pub mod Window
+pub mod Slides
 pub mod Sliding
 pub mod Listening
 pub mod Widest
-pub mod Meant
+pub mod Answering
 pub mod Props
 pub mod Building
 pub mod Grows
 pub mod Hearing
+pub mod Walking

@@ -1,5 +1,5 @@
 -- What a figure reader means, and what each call does to it.
-use Rattle.std.specs.Prelude.{◌≡◌, ℕ, ◌≤◌, cond, List, [], ◌∷◌, ◌++◌, length, Some, None, Result, MatchResult, ◌==◌}
+use Rattle.std.specs.Prelude.{◌≡◌, ℕ, ◌≤◌, List, [], ◌∷◌, ◌++◌, length, Option, Some, None, Result, MatchResult}
 use Rattle.terms.specs.Figures.{figures}
 use Rattle.terms.specs.Codes.{count_of}
 use Rattle.terms.specs.Reading.{Run, LongestEnd, answered}
@@ -38,6 +38,11 @@ abbrev pub forgotten : Memory → Memory
 forgotten nothing = nothing
 forgotten (held p q r) = held p q []
 
--- what a reader means that has m sounds of a phrase p, and nothing where m is 0
-abbrev pub meant : ℕ → List ℕ → ℕ → List ℕ → Memory
-meant m p q r = cond (m == 0) nothing (held p q r)
+-- what a reader means that may hold nothing
+abbrev pub held_or_nothing : {K : Type 0} → (K → Memory) → Option K → Memory
+held_or_nothing m None = nothing
+held_or_nothing m (Some k) = m k
+
+pub whole_or_nothing : {K : Type 0} (m : K → Memory) → ((k : K) → Whole (m k)) → (o : Option K) → Whole (held_or_nothing m o)
+whole_or_nothing m w None = tt
+whole_or_nothing m w (Some k) = w k

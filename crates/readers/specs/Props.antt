@@ -1,16 +1,13 @@
--- What a table keeps true is a proposition, so that it comes out of the truncation in a ghost field.
-use Rattle.std.specs.Prelude.{◌≡◌, ℕ, ◌+◌, ◌<◌, ◌≤◌, true, List, [], ◌∷◌, ◌++◌, length, drop}
-use Rattle.std.proofs.Math.Logic.{∥∥₁_elim}
+-- What a table keeps true is a proposition, so that it can be a ghost field.
+use Rattle.std.specs.Prelude.{◌≡◌, ℕ, ◌+◌, ◌<◌, ◌≤◌, List, [], ◌∷◌, ◌++◌, length, drop, slice_index}
 use base.Stored.{Coded-set, coded_list, coded_ℕ}
 use denote.Struct.Props.{props}
 use Rattle.terms.specs.Figures.{figures}
 use Rattle.readers.specs.declared.state.State.{State}
 use Rattle.readers.specs.States.{Keeps}
-use Rattle.terms.specs.Refusals.{all_below_lem}
-use Rattle.readers.specs.Window.{Slides, Tabled}
-use Rattle.readers.specs.Table.{Node, Tree, Runs, run, nodes, Complete, Codes, Counts}
+use Rattle.readers.specs.Table.{Node, Tree, Runs, Stands, Built, run, nodes, Complete, Codes, Counts}
 
-tree_prop : (n : ℕ) (N : ℕ → Node) → IsProp (Tree n N)
+pub tree_prop : (n : ℕ) (N : ℕ → Node) → IsProp (Tree n N)
 tree_prop n N p q =
     let a : IsProp ((i : ℕ) → 0 < i → i < n → (N i).parent < i) = hlevel props in
     let b : IsProp ((i : ℕ) → i < n → (N i).child < n) = hlevel props in
@@ -28,9 +25,6 @@ tree_prop n N p q =
       next_of = f p.next_of q.next_of i;
       next_most = g p.next_most q.next_most i;
     }
-
-pub tree_out : (n : ℕ) (N : ℕ → Node) → ∥ Tree n N ∥₁ → Tree n N
-tree_out n N k = ∥∥₁_elim k (tree_prop n N) (λ x. x)
 
 runs_prop : (xs : List ℕ) (n : ℕ) (N : ℕ → Node) → IsProp (Runs xs n N)
 runs_prop xs n N p q =
@@ -55,37 +49,42 @@ runs_prop xs n N p q =
       apart = k p.apart q.apart i;
     }
 
-keeps_prop : (xs : List ℕ) (l here n : ℕ) (ss : List State) (counts : List ℕ) → IsProp (Keeps xs l here n ss counts)
-keeps_prop xs l here n ss counts p q =
-    let a : IsProp (1 ≤ l) = hlevel props in
-    let b : IsProp (here < n) = hlevel props in
-    let c : IsProp ((i : ℕ) → i < n → (nodes ss i).len ≤ l) = hlevel props in
-    let d : IsProp (Complete xs l n (nodes ss)) = hlevel props in
-    let e : IsProp (Codes xs (figures l xs) n ss) = hlevel props in
-    let f : IsProp (Counts (figures l xs) counts) = hlevel props in
+stands_prop : (p : List ℕ) (n : ℕ) (N : ℕ → Node) (l b j : ℕ) → IsProp (Stands p n N l b j)
+stands_prop p n N l b j x y =
+    let a : IsProp (j < n) = hlevel props in
+    let c : IsProp ((N j).len ≡ l) = hlevel props in
     λ i. record {
-      some = a p.some q.some i;
-      inside = b p.inside q.inside i;
-      runs = runs_prop xs n (nodes ss) p.runs q.runs i;
-      short = c p.short q.short i;
-      complete = d p.complete q.complete i;
-      codes = e p.codes q.codes i;
-      counted = f p.counted q.counted i;
+      in_table = a x.in_table y.in_table i;
+      len_is = c x.len_is y.len_is i;
+      run_is = Coded-set (coded_list coded_ℕ) _ _ x.run_is y.run_is i;
     }
 
-pub keeps_out : (m : ℕ) (xs : List ℕ) (l here n : ℕ) (ss : List State) (counts : List ℕ) → ∥ (0 < m → Keeps xs l here n ss counts) ∥₁ → 0 < m → Keeps xs l here n ss counts
-keeps_out m xs l here n ss counts k z = ∥∥₁_elim k (keeps_prop xs l here n ss counts) (λ f. f z)
-
-slides_prop : (xs : List ℕ) (c l : ℕ) (codes counts : List ℕ) → IsProp (Slides xs c l codes counts)
-slides_prop xs c l codes counts p q =
-    let a : IsProp (all_below_lem c xs ≡ true) = hlevel props in
-    let b : IsProp (Tabled c l (figures l xs) codes) = hlevel props in
-    let d : IsProp (Counts (figures l xs) counts) = hlevel props in
+pub built_prop : (p : List ℕ) (l a s n : ℕ) (N : ℕ → Node) (places : List ℕ) → IsProp (Built p l a s n N places)
+built_prop p l a s n N places x y =
+    let c : IsProp ((i : ℕ) → i < n → (N i).len ≤ s) = hlevel props in
+    let d : IsProp (Complete p l n N) = hlevel props in
     λ i. record {
-      below = a p.below q.below i;
-      tabled = b p.tabled q.tabled i;
-      counted = d p.counted q.counted i;
+      runs = runs_prop p n N x.runs y.runs i;
+      short = c x.short y.short i;
+      complete = d x.complete y.complete i;
+      done = λ b h. stands_prop p n N (l + 1) b (slice_index places b) (x.done b h) (y.done b h) i;
+      todo = λ b h k. stands_prop p n N l b (slice_index places b) (x.todo b h k) (y.todo b h k) i;
     }
 
-pub slides_out : (m : ℕ) (xs : List ℕ) (c l : ℕ) (codes counts : List ℕ) → ∥ (0 < m → Slides xs c l codes counts) ∥₁ → 0 < m → Slides xs c l codes counts
-slides_out m xs c l codes counts k z = ∥∥₁_elim k (slides_prop xs c l codes counts) (λ f. f z)
+pub keeps_prop : (p : List ℕ) (q here : ℕ) (ss : List State) (counts : List ℕ) → IsProp (Keeps p q here ss counts)
+keeps_prop p q here ss counts x y =
+    let a : IsProp (1 ≤ q) = hlevel props in
+    let b : IsProp (here < length ss) = hlevel props in
+    let c : IsProp ((i : ℕ) → i < length ss → (nodes ss i).len ≤ q) = hlevel props in
+    let d : IsProp (Complete p q (length ss) (nodes ss)) = hlevel props in
+    let e : IsProp (Codes p (figures q p) (length ss) ss) = hlevel props in
+    let f : IsProp (Counts (figures q p) counts) = hlevel props in
+    λ i. record {
+      some = a x.some y.some i;
+      inside = b x.inside y.inside i;
+      runs = runs_prop p (length ss) (nodes ss) x.runs y.runs i;
+      short = c x.short y.short i;
+      complete = d x.complete y.complete i;
+      codes = e x.codes y.codes i;
+      counted = f x.counted y.counted i;
+    }

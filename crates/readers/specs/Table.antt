@@ -89,9 +89,9 @@ with_child s j = record {
   next = s.next;
 }
 
--- a table of n states with one more, a child of the state i
-abbrev pub grown : List State → ℕ → ℕ → State → List State
-grown ss n i s = slice_set (slice_set ss i (with_child (slice_index_or ss i blank) n)) n s
+-- a table with one state more, a child of the state i
+abbrev pub grown : List State → ℕ → State → List State
+grown ss i s = slice_set ss i (with_child (slice_index_or ss i blank) (length ss)) ++ (s ∷ [])
 
 -- the states are different runs of the phrase, each linked to the run without its last sound and to the one without
 -- its first
@@ -145,7 +145,7 @@ with_code s h = record {
 
 -- no state has a code
 abbrev pub Uncoded : List State → Type 0
-Uncoded ss = (i : ℕ) → (get_or ss i blank).code ≡ 0
+Uncoded ss = (i : ℕ) → i < length ss → (get_or ss i blank).code ≡ 0
 
 -- each state has the code of its run among the figures ps
 abbrev pub Codes : List ℕ → List (List ℕ) → ℕ → List State → Type 0
@@ -164,6 +164,7 @@ pub record CodeGiven (j codes : ℕ) (ss ss' : List State) (codes' : ℕ) : Type
 -- the states of a table have the codes of the figures ps, of which as many are different
 pub record Numbered (p : List ℕ) (ps : List (List ℕ)) (n : ℕ) (N : ℕ → Node) (ss : List State) (codes : ℕ)
     : Type 0 where
+  pub as_many : length ss ≡ n
   pub same : nodes ss ≡ N
   pub each : Codes p ps n ss
   pub many : codes ≡ length (different ps)

@@ -1,11 +1,8 @@
 -- The last sounds as one number in base c.
-use Rattle.std.specs.Prelude.{◌≡◌, ℕ, zero, suc, ◌+◌, ◌/◌, ◌%◌, ◌^◌, ◌<◌, ◌≤◌, true, cond, List, [], ◌∷◌, ◌++◌, ◌==◌, ◌≢◌, nat_le, nat_lt, slice_index, slice_index_or, slice_set}
+use Rattle.std.specs.Prelude.{◌≡◌, ℕ, zero, suc, ◌+◌, ◌/◌, ◌%◌, ◌^◌, ◌<◌, ◌≤◌, cond, List, [], ◌∷◌, ◌++◌, ◌==◌, ◌≢◌, nat_le, nat_lt, length, Option, MatchOption, slice_index, slice_index_or, slice_set}
 use Rattle.terms.specs.Limits.{longest_figure, most_numbers}
 use Rattle.terms.specs.Marks.{newest}
-use Rattle.terms.specs.Figures.{figures}
 use Rattle.terms.specs.Codes.{code}
-use Rattle.terms.specs.Refusals.{all_below_lem}
-use Rattle.readers.specs.Table.{Counts}
 
 -- the k last digits of n in base c, the highest first
 unfoldable pub digits : ℕ → ℕ → ℕ → List ℕ
@@ -32,6 +29,10 @@ pub record Largest (c r : ℕ) : Type 0 where
 abbrev pub slid : ℕ → ℕ → List ℕ → ℕ → List ℕ
 slid c w ws x = cond (nat_lt x c) (newest w (ws ++ (x ∷ []))) []
 
+-- of the sounds ws the number, where they are w digits in base c; none where they are fewer
+abbrev pub Filled : ℕ → ℕ → List ℕ → Option ℕ → Type 0
+Filled c w ws r = MatchOption r (length ws < w) (λ n. (n < c ^ w) × (digits c w n ≡ ws))
+
 -- each number of q digits has the code of its digits among the figures ps
 abbrev pub Tabled : ℕ → ℕ → List (List ℕ) → List ℕ → Type 0
 Tabled c q ps codes = (n : ℕ) → n < c ^ q → slice_index codes n ≡ code ps (digits c q n)
@@ -40,9 +41,3 @@ Tabled c q ps codes = (n : ℕ) → n < c ^ q → slice_index codes n ≡ code p
 pub record Entered (n next : ℕ) (codes codes' : List ℕ) (next' : ℕ) : Type 0 where
   pub old : (slice_index codes n ≢ 0) → (codes' ≡ codes) × (next' ≡ next)
   pub new : slice_index_or codes n 0 ≡ 0 → (codes' ≡ slice_set codes n (next + 1)) × (next' ≡ next + 1)
-
--- what a sliding reader keeps true while it holds a phrase p
-pub record Slides (p : List ℕ) (c q : ℕ) (codes counts : List ℕ) : Type 0 where
-  pub below : all_below_lem c p ≡ true
-  pub tabled : Tabled c q (figures q p) codes
-  pub counted : Counts (figures q p) counts

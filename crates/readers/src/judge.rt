@@ -1,5 +1,4 @@
-ghost use Rattle.std.specs.Prelude.{◌≡◌, ℕ, ◌≤◌, true, false, length, take};
-ghost use Rattle.terms.specs.Limits.{longest_phrase};
+ghost use Rattle.std.specs.Prelude.{◌≡◌, true, false};
 ghost use Rattle.terms.specs.Refusals.{all_below_lem};
 ghost use Rattle.readers.specs.Judging.{Judged};
 
@@ -10,16 +9,11 @@ use terms::refusal::Refusal;
 fn all_below(phrase: &[u32], c: u32) -> bool
     ensures { result ≡ all_below_lem c phrase.now }
 {
-    for sound in phrase {
-        if *sound >= c {
-            return false;
-        }
-    }
-    true
+    phrase.iter().all(|&sound| sound < c)
 }
 
 // Whether a reader of this reach takes the phrase, and which refusal it gives where not.
-pub fn judge(phrase: &[u32], q: usize, c: u32, reach: usize) -> Result<(), Refusal>
+pub(crate) fn judge(phrase: &[u32], q: usize, c: u32, reach: usize) -> Result<(), Refusal>
     ensures { Judged reach phrase.now q c result }
 {
     let sounds = phrase.len();
@@ -39,16 +33,4 @@ pub fn judge(phrase: &[u32], q: usize, c: u32, reach: usize) -> Result<(), Refus
         return Err(Refusal::UnknownSound);
     }
     Ok(())
-}
-
-// The phrase at the front of an array.
-pub fn copied(phrase: &[u32]) -> [u32; LONGEST_PHRASE]
-    requires { length phrase.now ≤ longest_phrase }
-    ensures { take (length phrase.now) result ≡ phrase.now }
-{
-    let mut sounds = [0; LONGEST_PHRASE];
-    for i in 0..phrase.len() {
-        sounds[i] = phrase[i];
-    }
-    sounds
 }

@@ -12,8 +12,8 @@ pub fn hear_all<R: Reader>(reader: &mut R, sounds: &[u32]) -> usize
         (R.Reader.memory reader.new) result }
 {
     let mut last = 0;
-    for sound in sounds {
-        last = reader.hear(*sound);
+    for &sound in sounds {
+        last = reader.hear(sound);
     }
     last
 }
@@ -37,6 +37,7 @@ pub fn listen<R: Reader>(phrase: &[u32], q: usize, c: u32, sounds: &[u32]) -> Re
 }
 
 // Both readers hear the sound. Two of whatever make that mean the same answer it alike, and mean the same again.
+#[tactic(auto, using(crate::proofs::Listens::hears_once))]
 pub fn hear_alike<X: Reader, Y: Reader>(a: &mut X, b: &mut Y, sound: u32) -> (usize, usize)
     ensures first { Hears (X.Reader.memory a.old) sound (X.Reader.memory a.new) result.0 }
     ensures second { Hears (Y.Reader.memory b.old) sound (Y.Reader.memory b.new) result.1 }

@@ -1,48 +1,41 @@
-ghost use Rattle.std.specs.Prelude.{◌≡◌, ℕ, ◌<◌, ◌≤◌, true, length, take};
-ghost use Rattle.terms.specs.Figures.{figures};
-ghost use Rattle.terms.specs.Limits.{longest_phrase, most_numbers};
+ghost use Rattle.std.specs.Prelude.{◌≡◌, ℕ, ◌^◌, ◌≤◌, true, [], length, nat_le};
+ghost use Rattle.terms.specs.Limits.{longest_phrase, longest_figure, most_numbers};
 ghost use Rattle.terms.specs.Refusals.{all_below_lem};
-ghost use Rattle.readers.specs.Table.{Counts, most_places};
-ghost use Rattle.readers.specs.Window.{Tabled, Entered, Slides, sliding_reach_lem};
-ghost use Rattle.readers.specs.Sliding.{sliding_memory, shown};
+ghost use Rattle.readers.specs.Window.{sliding_reach_lem};
+ghost use Rattle.readers.specs.Slides.{Slides, slides_prop};
+ghost use Rattle.readers.specs.Memory.{held};
 ghost use Rattle.readers.specs.Widest.{reach_most, reach_some};
-ghost use Rattle.terms.specs.Reading.{remembered};
-ghost use Rattle.terms.proofs.Reading.{every_reader_lem};
-ghost use Rattle.readers.specs.Meant.{whole_meant};
-ghost use Rattle.std.proofs.Common.{rules, arith};
+ghost use Rattle.std.proofs.Common.{rules};
 
-use crate::counts::{MOST_PLACES, tallied, tally};
-use crate::judge::{copied, judge};
-use crate::reader::Reader;
+use crate::coder::Coder;
+use crate::holder::{Holder, Keeper};
+use crate::scale::Scale;
+use crate::tally::Tally;
 use crate::window::Window;
+use arrayvec::ArrayVec;
 use terms::limits::{LONGEST_FIGURE, LONGEST_PHRASE, MOST_NUMBERS};
-use terms::refusal::Refusal;
 
-// A reader that keeps the last sounds as one number, and a table from numbers to codes. It holds no phrase where `len`
-// is 0.
+// A reader that keeps the last sounds as one number, and a table from numbers to codes.
+pub type SlidingReader = Holder<Slider>;
+
+// A phrase, the code of each number of its figures, and the window of what was heard.
 #[derive(Drop)]
-pub struct SlidingReader {
-    sounds: [u32; LONGEST_PHRASE],
-    len: usize,
+pub struct Slider {
+    phrase: ArrayVec<u32, LONGEST_PHRASE>,
     window: Window,
-    codes: [usize; MOST_NUMBERS],
-    counts: [usize; MOST_PLACES],
-    ghost numbers: { length codes ≡ most_numbers },
-    ghost places: { length counts ≡ most_places },
-    ghost kept: { ∥ (0 < len → Slides (take len sounds) window.base window.width codes counts) ∥₁ },
+    codes: Coder,
+    counts: Tally,
+    ghost kept: { Slides phrase.items window.scale codes counts } by { slides_prop phrase.items window.scale codes counts },
 }
 
-// Gives a number the next code, unless it has one, and answers how many codes there are then.
-fn enter(codes: &mut [usize; MOST_NUMBERS], number: usize, next: usize) -> usize
-    requires inside { number < most_numbers }
-    requires few { next ≤ longest_phrase }
-    ensures { Entered number next codes.old codes.new result }
+// Whether the numbers of `width` digits in base `c` fit the table.
+fn fits(c: u32, width: usize) -> bool
+    requires { width ≤ longest_figure }
+    ensures { result ≡ nat_le (c ^ width) most_numbers }
 {
-    if codes[number] != 0 {
-        return next;
-    }
-    codes[number] = next + 1;
-    next + 1
+    (c as usize)
+        .checked_pow(width as u32)
+        .is_some_and(|power| power <= MOST_NUMBERS)
 }
 
 // The longest figures whose numbers in base `c` fit the table.
@@ -52,57 +45,45 @@ fn widest_figure(c: u32) -> usize
     if c == 0 {
         return 0;
     }
-    let base = c as usize;
-    let mut width = 0;
-    let mut power = 1;
-    while width < LONGEST_FIGURE {
-        power *= base;
-        if power > MOST_NUMBERS {
-            return width;
+    (0..LONGEST_FIGURE)
+        .find(|&width| !fits(c, width + 1))
+        .unwrap_or(LONGEST_FIGURE)
+}
+
+impl Slider {
+    ghost use Rattle.readers.specs.Sliding.{slider_memory};
+
+    // Nothing is heard yet.
+    fn read(phrase: &[u32], scale: Scale) -> Slider
+        requires phrase { length phrase.now ≤ longest_phrase }
+        requires below { all_below_lem scale.base phrase.now ≡ true }
+        ensures { slider_memory result ≡ held phrase.now scale.width [] }
+    {
+        let mut window = Window::new(scale);
+        let mut codes = Coder::new();
+        let mut counts = Tally::new();
+        for &sound in phrase {
+            if let Some(number) = window.slide(sound) {
+                counts.add(codes.code(number));
+            }
         }
-        width += 1;
+        Slider {
+            phrase: ArrayVec::try_from(phrase).unwrap(),
+            window: Window::new(scale),
+            codes,
+            counts,
+        }
     }
-    width
 }
 
-// The code of each number of `width` digits, and how often the figure of each code stands in the phrase.
-fn tabled(phrase: &[u32], mut window: Window) -> ([usize; MOST_NUMBERS], [usize; MOST_PLACES])
-    requires phrase { length phrase.now ≤ longest_phrase }
-    requires width { window.width ≤ length phrase.now }
-    requires below { all_below_lem window.base phrase.now ≡ true }
-    requires empty { window.heard ≡ 0 }
-    ensures codes { Tabled window.base window.width (figures window.width phrase.now) result.0 }
-    ensures counts { Counts (figures window.width phrase.now) result.1 }
-    ensures long { length result.0 ≡ most_numbers }
-    ensures wide { length result.1 ≡ most_places }
-{
-    let base = window.base;
-    let width = window.width;
-    for i in 0..width - 1 {
-        window.slide(phrase[i]);
-    }
-    let mut codes = [0; MOST_NUMBERS];
-    let mut counts = [0; MOST_PLACES];
-    let mut next = 0;
-    for at in 0..phrase.len() + 1 - width {
-        window.slide(phrase[at + (width - 1)]);
-        let number = window.number;
-        next = enter(&mut codes, number, next);
-        tally(&mut counts, codes[number]);
-    }
-    (codes, counts)
-}
+impl Keeper for Slider {
+    ghost use Rattle.readers.specs.Sliding.{slider_memory, slider_whole};
 
-impl Reader for SlidingReader {
-    ghost memory = { λ s. sliding_memory s.len s.sounds s.window };
+    ghost memory = { slider_memory };
 
     ghost reaches = { sliding_reach_lem };
 
-    ghost whole = { λ s.
-        let p = take s.len s.sounds in
-        let q = s.window.width in
-        let l = (every_reader_lem q p).found (shown s.window) in
-        whole_meant s.len p q (remembered q p (shown s.window)) (λ e. (l.short, l.run)) };
+    ghost whole = { slider_whole };
 
     ghost most = { reach_most };
 
@@ -110,53 +91,27 @@ impl Reader for SlidingReader {
 
     ghost without = { Prim.search rules };
 
-    fn new() -> SlidingReader {
-        SlidingReader {
-            sounds: [0; LONGEST_PHRASE],
-            len: 0,
-            window: Window::new(1, 1),
-            codes: [0; MOST_NUMBERS],
-            counts: [0; MOST_PLACES],
-        }
-    }
-
     fn reach(c: u32) -> usize {
         widest_figure(c)
     }
 
-    fn load(&mut self, phrase: &[u32], q: usize, c: u32) -> Result<(), Refusal> {
-        judge(phrase, q, c, Self::reach(c))?;
-        let window = Window::new(c as usize, q);
-        let (codes, counts) = tabled(phrase, window);
-        *self = SlidingReader {
-            sounds: copied(phrase),
-            len: phrase.len(),
-            window,
-            codes,
-            counts,
-        };
-        Ok(())
+    fn new(phrase: &[u32], q: usize, c: u32) -> Slider {
+        Slider::read(phrase, Scale::new(c as usize, q))
     }
 
     fn hear(&mut self, sound: u32) -> usize {
-        if self.len == 0 {
-            return 0;
+        match self.window.slide(sound) {
+            Some(number) => self.codes.codes[number],
+            None => 0,
         }
-        self.window.slide(sound);
-        if self.window.heard < self.window.width {
-            return 0;
-        }
-        self.codes[self.window.number]
     }
 
     fn count(&self, code: usize) -> usize {
-        if self.len == 0 {
-            return 0;
-        }
-        tallied(&self.counts, code)
+        self.counts.of(code)
     }
 
+    #[tactic(auto, using(crate::proofs::Windows::memory_empty))]
     fn forget(&mut self) {
-        self.window.clear();
+        self.window = Window::new(self.window.scale);
     }
 }

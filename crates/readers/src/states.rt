@@ -1,40 +1,39 @@
-ghost use Rattle.std.specs.Prelude.{◌≡◌, ℕ, ◌<◌, length, take};
-ghost use Rattle.readers.specs.Table.{most_places, nodes, run};
-ghost use Rattle.readers.specs.States.{Keeps, Follows, states_memory, states_reach_lem};
-ghost use Rattle.std.proofs.Common.{arith, rules};
-ghost use Rattle.readers.specs.Props.{keeps_out};
-ghost use Rattle.readers.specs.Building.{run_length};
-ghost use Rattle.readers.specs.Hearing.{part_run};
-ghost use Rattle.readers.specs.Meant.{whole_meant};
+ghost use Rattle.std.specs.Prelude.{◌≡◌, ◌<◌, length};
+ghost use Rattle.readers.specs.States.{Keeps, states_reach_lem};
+ghost use Rattle.readers.specs.Props.{keeps_prop};
+ghost use Rattle.std.proofs.Common.{rules};
 
-use crate::counts::{MOST_PLACES, tallied};
-use crate::judge::{copied, judge};
-use crate::reader::Reader;
+use crate::build::Unnumbered;
+use crate::holder::{Holder, Keeper};
 use crate::table::Table;
+use crate::tally::Tally;
+use arrayvec::ArrayVec;
 use terms::limits::{LONGEST_FIGURE, LONGEST_PHRASE};
-use terms::refusal::Refusal;
 
-// A reader with one state for each different run of 0 to q sounds of its phrase. It holds none where `len` is 0.
+// A reader with one state for each different run of 0 to q sounds of its phrase.
+pub type StatesReader = Holder<Walker>;
+
+// A phrase, one state for each different run of 0 to q sounds of it, how often the figure of each code stands in it,
+// and the state of the remembered end.
 #[derive(Drop)]
-pub struct StatesReader {
-    sounds: [u32; LONGEST_PHRASE],
-    len: usize,
+pub struct Walker {
+    sounds: ArrayVec<u32, LONGEST_PHRASE>,
     q: usize,
     table: Table,
-    counts: [usize; MOST_PLACES],
+    counts: Tally,
     here: usize,
-    ghost numbers: { length counts ≡ most_places },
-    ghost kept: { ∥ (0 < len → Keeps (take len sounds) q here table.count table.states counts) ∥₁ },
+    ghost kept: { Keeps sounds.items q here table.states.items counts.counts } by { keeps_prop sounds.items q here table.states.items counts.counts },
 }
 
-impl StatesReader {
+impl Walker {
+    ghost use Rattle.readers.specs.Walking.{Follows};
+
     // The state of the longest end of the remembered one followed by a sound. A turn that goes on makes the end one
-    // sound shorter, and a sound makes it at most one longer: so a call has two turns or fewer on average.
+    // sound shorter, and a sound makes it at most one longer: so a call has two turns or fewer on average. The turns go
+    // by places, since the memory is fixed.
     fn follow(&self, sound: u32) -> usize
-        requires { 0 < self.now.len }
-        ensures inside { result < self.now.table.count }
-        ensures longest { Follows self.now.len self.now.sounds self.now.q
-            self.now.table.states self.now.here sound result }
+        ensures inside { result < length self.now.table.states.items }
+        ensures longest { Follows self.now sound result }
     {
         let mut at = self.here;
         loop {
@@ -49,19 +48,14 @@ impl StatesReader {
     }
 }
 
-impl Reader for StatesReader {
-    ghost memory = { λ s. states_memory s.len s.sounds s.q s.table.states s.here };
+impl Keeper for Walker {
+    ghost use Rattle.readers.specs.Walking.{walker_memory, walker_whole};
+
+    ghost memory = { walker_memory };
 
     ghost reaches = { states_reach_lem };
 
-    ghost whole = { λ s.
-        let p = take s.len s.sounds in
-        let N = nodes s.table.states s.here in
-        whole_meant s.len p s.q (run p N) (λ e.
-        let k = keeps_out s.len p s.q s.here s.table.count s.table.states s.counts s.kept (omega arith) in
-        let l = run_length p N.at N.len (k.runs.inside s.here k.inside) in
-        let h = k.short s.here k.inside in
-        (omega arith, part_run p N.at N.len)) };
+    ghost whole = { walker_whole };
 
     ghost most = { Prim.search rules };
 
@@ -69,50 +63,30 @@ impl Reader for StatesReader {
 
     ghost without = { Prim.search rules };
 
-    fn new() -> StatesReader {
-        StatesReader {
-            sounds: [0; LONGEST_PHRASE],
-            len: 0,
-            q: 0,
-            table: Table::new(),
-            counts: [0; MOST_PLACES],
-            here: 0,
-        }
-    }
-
     fn reach(c: u32) -> usize {
         if c == 0 { 0 } else { LONGEST_FIGURE }
     }
 
-    fn load(&mut self, phrase: &[u32], q: usize, c: u32) -> Result<(), Refusal> {
-        judge(phrase, q, c, Self::reach(c))?;
-        let (mut table, places) = Table::build(phrase, q);
-        let counts = table.number(phrase, q, &places);
-        *self = StatesReader {
-            sounds: copied(phrase),
-            len: phrase.len(),
+    fn new(phrase: &[u32], q: usize, _c: u32) -> Walker {
+        let sounds = ArrayVec::try_from(phrase).unwrap();
+        let (table, counts) = Unnumbered::build(phrase, q).number();
+        Walker {
+            sounds,
             q,
             table,
             counts,
             here: 0,
-        };
-        Ok(())
+        }
     }
 
     fn hear(&mut self, sound: u32) -> usize {
-        if self.len == 0 {
-            return 0;
-        }
         let state = self.follow(sound);
         self.here = state;
-        self.table.states[state].code
+        self.table.code(state)
     }
 
     fn count(&self, code: usize) -> usize {
-        if self.len == 0 {
-            return 0;
-        }
-        tallied(&self.counts, code)
+        self.counts.of(code)
     }
 
     fn forget(&mut self) {

@@ -1,44 +1,61 @@
-ghost use Rattle.std.specs.Prelude.{◌≡◌, ℕ, ◌+◌, ◌<◌, ◌≤◌, length, slice_index_or};
+ghost use Rattle.std.specs.Prelude.{◌≡◌, ◌<◌, [], ◌∷◌, length, slice_index_or};
 ghost use Rattle.terms.specs.Limits.{most_states};
 ghost use Rattle.readers.specs.Table.{Tree, nodes, Found, blank, grown};
+ghost use Rattle.readers.specs.Props.{tree_prop};
 
 use crate::state::{State, link};
+use arrayvec::ArrayVec;
 use terms::limits::MOST_STATES;
 
-// The states, of which the first `count` are in use.
+// The states. They refer to one another by their places, since the memory is fixed.
 #[derive(Drop)]
-pub struct Table {
-    pub states: [State; MOST_STATES],
-    pub count: usize,
-    ghost long: { length states ≡ most_states },
-    ghost room: { count ≤ most_states },
-    ghost tree: { ∥ Tree count (nodes states) ∥₁ },
+pub(crate) struct Table {
+    pub(crate) states: ArrayVec<State, MOST_STATES>,
+    ghost tree: { Tree (length states.items) (nodes states.items) } by { tree_prop (length states.items) (nodes states.items) },
 }
 
 impl Table {
-    // The child of a state by a sound.
-    pub fn find(&self, from: usize, sound: u32) -> Option<usize>
-        requires { from < self.now.count }
-        ensures { Found self.now.count (nodes self.now.states) from sound result }
+    // The table of the empty run alone.
+    pub(crate) fn new() -> Table
+        ensures { result.states.items ≡ blank ∷ [] }
     {
-        let mut at = self.states[from].child;
+        let mut states = ArrayVec::new();
+        states.push(State::default());
+        Table { states }
+    }
+
+    // The child of a state by a sound.
+    pub(crate) fn find(&self, from: usize, sound: u32) -> Option<usize>
+        requires { from < length self.now.states.items }
+        ensures { Found (length self.now.states.items) (nodes self.now.states.items) from sound result }
+    {
+        let states = self.states.as_slice();
+        let mut at = states[from].child;
+        // Places lead from child to child, since the memory is fixed.
         while at != 0 {
-            if self.states[at].sound == sound {
+            let state = states[at];
+            if state.sound == sound {
                 return Some(at);
             }
-            at = self.states[at].next;
+            at = state.next;
         }
         None
     }
 
     // One state more, a child of the state `parent`.
-    pub fn add(&mut self, parent: usize, at: usize, len: usize, sound: u32, shorter: usize) -> usize
-        requires inside { parent < self.old.count }
-        requires room { self.old.count < most_states }
-        ensures place { result ≡ self.old.count }
-        ensures count { self.new.count ≡ self.old.count + 1 }
-        ensures states { self.new.states
-            ≡ grown self.old.states self.old.count parent (record {
+    pub(crate) fn add(
+        &mut self,
+        parent: usize,
+        at: usize,
+        len: usize,
+        sound: u32,
+        shorter: usize,
+    ) -> usize
+        requires inside { parent < length self.old.states.items }
+        requires room { length self.old.states.items < most_states }
+        ensures place { result ≡ length self.old.states.items }
+        ensures states { self.new.states.items
+            ≡ grown self.old.states.items parent (record {
               at = at;
               len = len;
               sound = sound;
@@ -46,12 +63,12 @@ impl Table {
               parent = parent;
               shorter = shorter;
               child = 0;
-              next = (slice_index_or self.old.states parent blank).child;
+              next = (slice_index_or self.old.states.items parent blank).child;
             }) }
     {
-        let place = self.count;
+        let place = self.states.len();
         let next = link(&mut self.states[parent], place);
-        self.states[place] = State {
+        self.states.push(State {
             at,
             len,
             sound,
@@ -60,8 +77,15 @@ impl Table {
             shorter,
             child: 0,
             next,
-        };
-        self.count = place + 1;
+        });
         place
+    }
+
+    // The code of a state.
+    pub(crate) fn code(&self, state: usize) -> usize
+        requires { state < length self.now.states.items }
+        ensures { result ≡ (slice_index_or self.now.states.items state blank).code }
+    {
+        self.states[state].code
     }
 }

@@ -18,10 +18,7 @@ mod tests {
     const LARGEST_GAP: u32 = LONGEST_PHRASE as u32;
 
     fn number(r: Result<(), Refusal>) -> u8 {
-        match r {
-            Ok(_) => 0,
-            Err(e) => e.number(),
-        }
+        r.err().map_or(0, Refusal::number)
     }
 
     fn made(minus: bool) -> Mark {
@@ -40,19 +37,17 @@ mod tests {
 
     #[test]
     fn widths(rt: HostRuntime) {
-        let widths: [usize; 6] = [0, 1, 2, WIDEST_ROW - 1, WIDEST_ROW, WIDEST_ROW + 1];
-        let refused: [u8; 6] = [16, 0, 0, 0, 0, 16];
-        let answers: [(i32, u32); 6] = [
-            (0, 0),
-            (-1, 1),
-            (-2, 2),
-            (1 - WIDE, SPAN - 1),
-            (-WIDE, SPAN),
-            (0, 0),
+        let cases = [
+            (0, 16, (0, 0)),
+            (1, 0, (-1, 1)),
+            (2, 0, (-2, 2)),
+            (WIDEST_ROW - 1, 0, (1 - WIDE, SPAN - 1)),
+            (WIDEST_ROW, 0, (-WIDE, SPAN)),
+            (WIDEST_ROW + 1, 16, (0, 0)),
         ];
-        for i in 0..6 {
-            assert!(rt; all_minus::<PlainRow>(widths[i], refused[i], answers[i]));
-            assert!(rt; all_minus::<TreeRow>(widths[i], refused[i], answers[i]));
+        for (width, refused, answer) in cases {
+            assert!(rt; all_minus::<PlainRow>(width, refused, answer));
+            assert!(rt; all_minus::<TreeRow>(width, refused, answer));
         }
     }
 
@@ -68,11 +63,15 @@ mod tests {
         for _ in 0..3 {
             row.push(Mark::Minus);
         }
-        let ages: [usize; 5] = [3, 2, 0, 99, 1];
-        let refused: [u8; 5] = [17, 0, 0, 17, 0];
-        let answers: [(i32, u32); 5] = [(-3, 3), (-2, 2), (0, 2), (0, 2), (0, 0)];
-        for i in 0..5 {
-            ok &= lifted(&mut row, ages[i], refused[i], answers[i]);
+        let cases = [
+            (3, 17, (-3, 3)),
+            (2, 0, (-2, 2)),
+            (0, 0, (0, 2)),
+            (99, 17, (0, 2)),
+            (1, 0, (0, 0)),
+        ];
+        for (age, refused, answer) in cases {
+            ok &= lifted(&mut row, age, refused, answer);
         }
         ok
     }
@@ -87,10 +86,16 @@ mod tests {
     fn by_turns<R: Row>() -> bool {
         let mut row = R::new();
         let mut ok = pushed(&mut row, true, (0, 0)) & (number(row.start(6)) == 0);
-        let minus: [bool; 6] = [false, true, true, false, true, false];
-        let answers: [(i32, u32); 6] = [(0, 0), (-1, 1), (-2, 2), (-1, 3), (-2, 4), (-1, 5)];
-        for i in 0..6 {
-            ok &= pushed(&mut row, minus[i], answers[i]);
+        let turns = [
+            (false, (0, 0)),
+            (true, (-1, 1)),
+            (true, (-2, 2)),
+            (false, (-1, 3)),
+            (true, (-2, 4)),
+            (false, (-1, 5)),
+        ];
+        for (minus, answer) in turns {
+            ok &= pushed(&mut row, minus, answer);
         }
         let refused = number(row.start(0)) == 16;
         refused & (row.least() == (-1, 5)) & ok
@@ -128,9 +133,8 @@ mod tests {
 
     #[test]
     fn both_rows(rt: HostRuntime) {
-        let widths: [usize; 6] = [1, 2, 3, 8, WIDEST_ROW - 1, WIDEST_ROW];
-        for i in 0..6 {
-            assert!(rt; twice_round(widths[i]));
+        for width in [1, 2, 3, 8, WIDEST_ROW - 1, WIDEST_ROW] {
+            assert!(rt; twice_round(width));
         }
     }
 
@@ -144,18 +148,16 @@ mod tests {
     fn lamp(rt: HostRuntime) {
         let mut ring = LampRing::new();
         let mut ok = ring.lamp() == None;
-        let gaps: [u32; 6] = [u32::MAX, 3, 1, 1, 2, 0];
-        let steps: [u32; 6] = [u32::MAX, 1, 2, 3, 4, 5];
-        let wanted: [(u32, u32); 6] = [
-            (LARGEST_GAP, LONGEST_TAKE),
-            (3, 1),
-            (1, 2),
-            (1, 2),
-            (1, 2),
-            (0, 5),
+        let answers = [
+            (u32::MAX, u32::MAX, (LARGEST_GAP, LONGEST_TAKE)),
+            (3, 1, (3, 1)),
+            (1, 2, (1, 2)),
+            (1, 3, (1, 2)),
+            (2, 4, (1, 2)),
+            (0, 5, (0, 5)),
         ];
-        for i in 0..6 {
-            ok &= shown(&mut ring, gaps[i], steps[i], wanted[i]);
+        for (gap, step, want) in answers {
+            ok &= shown(&mut ring, gap, step, want);
         }
         for n in 1..LAMP_LENGTH {
             ok &= shown(&mut ring, 4, 5 + n as u32, (0, 5));

@@ -1,8 +1,9 @@
 -- The loop of `from_leaves`: from the last inner node down to the root.
-use Rattle.std.proofs.Common.{◌≡◌, ℕ, suc, ◌+◌, ◌-◌, ◌*◌, ◌^◌, ◌<◌, ◌≤◌, Bool, true, List, length, get_or, drop, set, replicate, sym, ap, ◌∙◌, subst, ⊎_elim, arith, pow_pos}
-use Rattle.std.proofs.lemmas.Bool.{cases_eq}
-use Rattle.std.proofs.lemmas.List.{length-set, get_or-set_same, get_or-set_other, drop-set-lt, length-replicate, get_or-replicate, length-drop, get_or-drop, ext_get_or}
-use Rattle.rows.specs.Laws.{Laws, Kept, limit, sizes}
+use Rattle.std.proofs.Common.{◌≡◌, ℕ, suc, ◌+◌, ◌-◌, ◌*◌, ◌/◌, ◌^◌, ◌<◌, ◌≤◌, Bool, true, List, ◌++◌, length, get_or, take, drop, set, replicate, sym, ap, ◌∙◌, subst, ⊎_elim, arith, pow_pos}
+use borrow.Rule.Slice.PartMut.{put_mid}
+use Rattle.std.proofs.lemmas.Bool.{cases_eq, cases_lt}
+use Rattle.std.proofs.lemmas.List.{append-nil, length-append, length-set, get_or-set_same, get_or-set_other, get_or_append_left, get_or-append_right, get_or_default, drop-set-lt, drop_all, drop_at, take-replicate, length-replicate, get_or-replicate, length-drop}
+use Rattle.rows.specs.Laws.{Laws, Kept, Grown, TreeSize, limit, sizes}
 use Rattle.rows.proofs.Runs.{tall, tall_same, tall_split}
 use Rattle.rows.proofs.Walks.{tall_inside}
 use Rattle.rows.proofs.Trees.{all_valid, tall_leaves}
@@ -88,33 +89,98 @@ module _ {M : Type 0} {empty : M} {joined : M → M → M} {size : M → ℕ} {v
     few = subst (λ ys. sizes size ys ≤ limit) (sym b.leaves_are) f;
   }
 
--- The copy of the leaves: the first k of them stand.
-pub record Copied {M : Type 0} (empty : M) (valid : M → Bool) (half : ℕ) (leaves : List M) (k : ℕ) (xs : List M) : Type 0 where
-  pub long : length xs ≡ 2 * half
-  pub valids : (j : ℕ) → j < length xs → valid (get_or xs j empty) ≡ true
-  pub done : (j : ℕ) → j < k → get_or xs (half + j) empty ≡ get_or leaves j empty
+-- The same in a tree of n nodes that is made of leaves.
+pub record Building {M : Type 0} (empty : M) (joined : M → M → M) (size : M → ℕ) (valid : M → Bool) (n : ℕ) (leaves : List M) (i : ℕ) (xs : List M) : Type 0 where
+  pub depth : ℕ
+  pub shape : n ≡ 2 * 2 ^ depth
+  pub few : sizes size leaves ≤ limit
+  pub built : Built empty joined size valid depth leaves i xs
 
-pub copied_none : {M : Type 0} (empty : M) (valid : M → Bool) (half : ℕ) (leaves : List M) (n : ℕ) → n ≡ 2 * half → valid empty ≡ true → Copied empty valid half leaves 0 (replicate n empty)
-copied_none empty valid half leaves n e v = record {
-  long = length-replicate n empty ∙ e;
-  valids = λ j h. ap valid (get_or-replicate n j empty empty (omega (arith, length-replicate n empty))) ∙ v;
-  done = λ j h. absurd (omega arith);
-}
+-- the leaves, copied behind empty inner nodes
+copied : {M : Type 0} (n : ℕ) (x : M) (ys : List M) → put_mid (n / 2) (length (replicate n x) - n / 2) (replicate n x) ys ≡ replicate (n / 2) x ++ ys
+copied n x ys =
+    let l = length-drop (n / 2) (replicate n x) in
+    ap (λ zs. take (n / 2) (replicate n x) ++ (ys ++ zs)) (drop_all (length (replicate n x) - n / 2) (drop (n / 2) (replicate n x)) (omega arith))
+    ∙ ap (λ zs. take (n / 2) (replicate n x) ++ zs) (append-nil ys)
+    ∙ ap (λ zs. zs ++ ys) (take-replicate (n / 2) n x (omega arith))
 
-pub copied_more : {M : Type 0} (empty : M) (valid : M → Bool) (half : ℕ) (leaves : List M) (k : ℕ) (xs : List M) (y : M) → k < half → valid y ≡ true → y ≡ get_or leaves k empty → Copied empty valid half leaves k xs → Copied empty valid half leaves (k + 1) (set xs (half + k) y)
-copied_more empty valid half leaves k xs y h v e c =
-    let l = c.long in
-    record {
-      long = length-set xs (half + k) y ∙ l;
-      valids = set_valids empty valid xs (half + k) y v c.valids;
-      done = λ j q. ⊎_elim
-          (λ d. ap (λ i. get_or (set xs (half + k) y) (half + i) empty) d ∙ get_or-set_same xs (half + k) y empty (omega arith) ∙ e ∙ ap (λ i. get_or leaves i empty) (sym d))
-          (λ n. get_or-set_other xs (half + k) (half + j) y empty (λ d. n (omega arith)) ∙ c.done j (omega arith))
-          (cases_eq j k);
-    }
+module _ {M : Type 0} {empty : M} {joined : M → M → M} {size : M → ℕ} {valid : M → Bool} (laws : Laws empty joined size valid) (n : ℕ) (leaves : List M) where
+  copied_valid : (h : ℕ) → ((i : ℕ) → i < length leaves → valid (get_or leaves i empty) ≡ true) → (i : ℕ) → i < length (replicate h empty ++ leaves) → valid (get_or (replicate h empty ++ leaves) i empty) ≡ true
+  copied_valid h v i q =
+      let l = length-append (replicate h empty) leaves in
+      let r = length-replicate h empty in
+      ⊎_elim
+      (λ b. ap valid (get_or_append_left (replicate h empty) leaves empty i (omega arith) ∙ get_or-replicate h i empty empty b) ∙ laws.valid_empty)
+      (λ b. ap valid (get_or-append_right (replicate h empty) leaves h i empty r b) ∙ v (i - h) (omega arith))
+      (cases_lt i h)
 
-pub copied_all : {M : Type 0} (empty : M) (valid : M → Bool) (half : ℕ) (leaves : List M) (k : ℕ) (xs : List M) → half ≤ k → length leaves ≡ half → Copied empty valid half leaves k xs → drop half xs ≡ leaves
-copied_all empty valid half leaves k xs h l c =
-    let n = c.long in
-    let d = length-drop half xs in
-    ext_get_or empty (drop half xs) leaves (omega arith) (λ i q. get_or-drop half xs i empty ∙ c.done i (omega arith))
+  pub building_begins : TreeSize n → 2 * length leaves ≡ n → ((i : ℕ) → i < length leaves → valid (get_or leaves i empty) ≡ true) → sizes size leaves ≤ limit → (x : M) (ys : List M) → x ≡ empty → ys ≡ leaves → Building empty joined size valid n leaves (n / 2) (put_mid (n / 2) (length (replicate n x) - n / 2) (replicate n x) ys)
+  building_begins t count v few x ys p q =
+      let s = t.1 in
+      let h : 2 ^ t.0 ≡ n / 2 = omega arith in
+      let l = length-append (replicate (2 ^ t.0) empty) leaves in
+      let r = length-replicate (2 ^ t.0) empty in
+      let begun : Built empty joined size valid t.0 leaves (2 ^ t.0) (replicate (2 ^ t.0) empty ++ leaves) =
+      built_begins laws t.0 leaves (replicate (2 ^ t.0) empty ++ leaves) (omega arith) (copied_valid (2 ^ t.0) v) (drop_at (replicate (2 ^ t.0) empty) leaves (2 ^ t.0) r) few in
+      let is : replicate (n / 2) empty ++ leaves ≡ put_mid (n / 2) (length (replicate n x) - n / 2) (replicate n x) ys =
+      ap (λ y. replicate (n / 2) y ++ leaves) (sym p) ∙ ap (λ zs. replicate (n / 2) x ++ zs) (sym q) ∙ sym (copied n x ys) in
+      record {
+        depth = t.0;
+        shape = s;
+        few = few;
+        built = subst (λ zs. Built empty joined size valid t.0 leaves (n / 2) zs) is (subst (λ a. Built empty joined size valid t.0 leaves a (replicate a empty ++ leaves)) h begun);
+      }
+
+  module _ (i : ℕ) (xs : List M) (b : Building empty joined size valid n leaves i xs) where
+    -- the same, of the node before
+    before : 1 < i → Built empty joined size valid b.depth leaves (i - 1 + 1) xs
+    before h = let e : i ≡ i - 1 + 1 = omega arith in subst (λ a. Built empty joined size valid b.depth leaves a xs) e b.built
+
+    -- what the join asks
+    pub building_asks : (x y : M) → 1 < i → (valid (get_or xs (2 * (i - 1)) x) ≡ true) × ((valid (get_or xs (2 * (i - 1) + 1) y) ≡ true) × (size (get_or xs (2 * (i - 1)) x) + size (get_or xs (2 * (i - 1) + 1) y) ≤ limit))
+    building_asks x y h =
+        let s = b.built in
+        let inside = s.inside in
+        let long = s.long in
+        let l : 2 * (i - 1) < length xs = omega arith in
+        let r : 2 * (i - 1) + 1 < length xs = omega arith in
+        let d = get_or_default xs (2 * (i - 1)) empty x l in
+        let e = get_or_default xs (2 * (i - 1) + 1) empty y r in (
+          subst (λ z. valid z ≡ true) d (s.valids (2 * (i - 1)) l),
+          (
+            subst (λ z. valid z ≡ true) e (s.valids (2 * (i - 1) + 1) r),
+            omega (arith, built_fits laws b.depth leaves (i - 1) xs (before h) (omega arith), ap size d, ap size e),
+          ),
+        )
+
+    pub building_on : (x y z : M) → 1 < i → z ≡ joined (get_or xs (2 * (i - 1)) x) (get_or xs (2 * (i - 1) + 1) y) → Building empty joined size valid n leaves (i - 1) (set xs (i - 1) z)
+    building_on x y z h is =
+        let s = b.built in
+        let inside = s.inside in
+        let long = s.long in
+        let d = get_or_default xs (2 * (i - 1)) empty x (omega arith) in
+        let e = get_or_default xs (2 * (i - 1) + 1) empty y (omega arith) in
+        let w : joined (get_or xs (2 * (i - 1)) empty) (get_or xs (2 * (i - 1) + 1) empty) ≡ z =
+        ap (λ u. joined u (get_or xs (2 * (i - 1) + 1) empty)) d ∙ ap (joined (get_or xs (2 * (i - 1)) x)) e ∙ sym is in
+        record {
+          depth = b.depth;
+          shape = b.shape;
+          few = b.few;
+          built = subst (λ u. Built empty joined size valid b.depth leaves (i - 1) (set xs (i - 1) u)) w (built_more laws b.depth leaves (i - 1) xs (before h) (omega arith));
+        }
+
+    pub building_ends : i ≤ 1 → Grown empty joined size valid n xs
+    building_ends h =
+        let s = b.built in
+        record {
+          depth = b.depth;
+          shape = b.shape;
+          long = s.long ∙ sym b.shape;
+          kept = built_all laws b.depth leaves i xs s h b.few;
+        }
+
+    pub building_leaves : drop (n / 2) xs ≡ leaves
+    building_leaves =
+        let h : n / 2 ≡ 2 ^ b.depth = let s = b.shape in omega arith in
+        let s = b.built in
+        ap (λ a. drop a xs) h ∙ s.leaves_are

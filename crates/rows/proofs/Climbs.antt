@@ -2,8 +2,8 @@
 use Rattle.std.proofs.Common.{◌≡◌, ℕ, zero, suc, ◌+◌, ◌*◌, ◌/◌, ◌^◌, ◌<◌, ◌≤◌, Bool, true, List, length, get_or, drop, set, sym, ap, ◌∙◌, subst, ⊎_elim, arith, pow_pos}
 use native.Mathlib.Nat.{pow-succ'}
 use Rattle.std.proofs.lemmas.Bool.{cases_eq}
-use Rattle.std.proofs.lemmas.List.{length-set, get_or-set_same, get_or-set_other, drop-set-lt, drop-set-add}
-use Rattle.rows.specs.Laws.{Laws, Kept, limit, sizes}
+use Rattle.std.proofs.lemmas.List.{length-set, get_or-set_same, get_or-set_other, drop-set-lt, drop-set-add, get_or_default}
+use Rattle.rows.specs.Laws.{Laws, Kept, Grown, limit, sizes}
 use Rattle.rows.proofs.Runs.{tall, tall_same, tall_halves}
 use Rattle.rows.proofs.Walks.{tall_inside}
 use Rattle.rows.proofs.Trees.{all_valid, tall_leaves}
@@ -121,3 +121,89 @@ module _ {M : Type 0} {empty : M} {joined : M → M → M} {size : M → ℕ} {v
     valids = s.valids;
     few = subst (λ ys. sizes size ys ≤ limit) (sym s.leaves_are) f;
   }
+
+-- The same in a tree of n nodes, which began as first; the leaves are then those of first.
+pub record Climbing {M : Type 0} (empty : M) (joined : M → M → M) (size : M → ℕ) (valid : M → Bool) (n : ℕ) (first : List M) (at : ℕ) (xs : List M) : Type 0 where
+  pub depth : ℕ
+  pub level : ℕ
+  pub shape : n ≡ 2 * 2 ^ depth
+  pub few : sizes size (drop (2 ^ depth) first) ≤ limit
+  pub climb : Climb empty joined size valid depth (drop (2 ^ depth) first) (2 ^ level) at xs
+
+-- the leaves, once one of them is written
+pub leaves_set : {M : Type 0} (n : ℕ) (xs old : List M) (k : ℕ) (v : M) → drop (n / 2) xs ≡ old → drop (n / 2) (set xs (n / 2 + k) v) ≡ set old k v
+leaves_set n xs old k v is = drop-set-add (n / 2) xs k v ∙ ap (λ ys. set ys k v) is
+
+module _ {M : Type 0} {empty : M} {joined : M → M → M} {size : M → ℕ} {valid : M → Bool} (laws : Laws empty joined size valid) where
+  pub climbing_begins : (n : ℕ) (xs old : List M) (k : ℕ) (v : M) → Grown empty joined size valid n xs → drop (n / 2) xs ≡ old → k < n / 2 → valid v ≡ true → sizes size (set old k v) ≤ limit → Climbing empty joined size valid n (set xs (n / 2 + k) v) (n / 2 + k) (set xs (n / 2 + k) v)
+  climbing_begins n xs old k v t is below vv few =
+      let long : length xs ≡ 2 * 2 ^ t.depth = t.long ∙ t.shape in
+      let h : 2 ^ t.depth ≡ n / 2 = let s = t.shape in omega arith in
+      let first : List M = set xs (n / 2 + k) v in
+      let leaves : drop (2 ^ t.depth) first ≡ set old k v = ap (λ a. drop a first) h ∙ leaves_set n xs old k v is in
+      let old_is : drop (2 ^ t.depth) xs ≡ old = ap (λ a. drop a xs) h ∙ is in
+      let small : sizes size (drop (2 ^ t.depth) first) ≤ limit = subst (λ ys. sizes size ys ≤ limit) (sym leaves) few in
+      record {
+        depth = t.depth;
+        level = t.depth;
+        shape = t.shape;
+        few = small;
+        climb =
+            subst (λ a. Climb empty joined size valid t.depth (drop (2 ^ t.depth) first) (2 ^ t.depth) (a + k) (set xs (a + k) v)) h
+            (climb_begins laws t.depth (drop (2 ^ t.depth) first) xs long t.kept k (omega arith) v vv (leaves ∙ ap (λ ys. set ys k v) (sym old_is)) small);
+      }
+
+  module _ (n : ℕ) (first : List M) (at : ℕ) (xs : List M) (c : Climbing empty joined size valid n first at xs) where
+    -- what the join asks
+    pub climbing_asks : (x y : M) → 1 < at → (valid (get_or xs (2 * (at / 2)) x) ≡ true) × ((valid (get_or xs (2 * (at / 2) + 1) y) ≡ true) × (size (get_or xs (2 * (at / 2)) x) + size (get_or xs (2 * (at / 2) + 1) y) ≤ limit))
+    climbing_asks x y h =
+        let s = c.climb in
+        let low = s.low in
+        let high = s.high in
+        let inside = s.inside in
+        let long = s.long in
+        let l : 2 * (at / 2) < length xs = omega arith in
+        let r : 2 * (at / 2) + 1 < length xs = omega arith in
+        let d = get_or_default xs (2 * (at / 2)) empty x l in
+        let e = get_or_default xs (2 * (at / 2) + 1) empty y r in (
+          subst (λ z. valid z ≡ true) d (s.valids (2 * (at / 2)) l),
+          (
+            subst (λ z. valid z ≡ true) e (s.valids (2 * (at / 2) + 1) r),
+            omega (arith, climb_fits laws c.depth (drop (2 ^ c.depth) first) c.level at xs s h, ap size d, ap size e),
+          ),
+        )
+
+    pub climbing_on : (x y z : M) → 1 < at → joined (get_or xs (2 * (at / 2)) x) (get_or xs (2 * (at / 2) + 1) y) ≡ z → Climbing empty joined size valid n first (at / 2) (set xs (at / 2) z)
+    climbing_on x y z h e =
+        let s = c.climb in
+        let low = s.low in
+        let high = s.high in
+        let inside = s.inside in
+        let long = s.long in
+        let d = get_or_default xs (2 * (at / 2)) empty x (omega arith) in
+        let f = get_or_default xs (2 * (at / 2) + 1) empty y (omega arith) in
+        let t = climbs laws c.depth (drop (2 ^ c.depth) first) c.level at xs s h in
+        let w : joined (get_or xs (2 * (at / 2)) empty) (get_or xs (2 * (at / 2) + 1) empty) ≡ z = ap (λ u. joined u (get_or xs (2 * (at / 2) + 1) empty)) d ∙ ap (joined (get_or xs (2 * (at / 2)) x)) f ∙ e in
+        record {
+          depth = c.depth;
+          level = t.0;
+          shape = c.shape;
+          few = c.few;
+          climb = subst (λ u. Climb empty joined size valid c.depth (drop (2 ^ c.depth) first) (2 ^ t.0) (at / 2) (set xs (at / 2) u)) w t.1;
+        }
+
+    pub climbing_ends : at ≤ 1 → Grown empty joined size valid n xs
+    climbing_ends h =
+        let s = c.climb in
+        record {
+          depth = c.depth;
+          shape = c.shape;
+          long = s.long ∙ sym c.shape;
+          kept = climb_ends laws c.depth (drop (2 ^ c.depth) first) c.level at xs s h c.few;
+        }
+
+    pub climbing_leaves : drop (n / 2) xs ≡ drop (n / 2) first
+    climbing_leaves =
+        let h : 2 ^ c.depth ≡ n / 2 = let s = c.shape in omega arith in
+        let s = c.climb in
+        subst (λ a. drop a xs ≡ drop a first) h s.leaves_are

@@ -1,14 +1,16 @@
 -- What the lamp's summary tells of the answers.
-use Rattle.std.proofs.Common.{◌≡◌, ℕ, zero, suc, ◌+◌, ◌-◌, ◌<◌, ◌≤◌, Bool, true, false, cond, List, [], ◌∷◌, ◌++◌, map, length, get_or, take, drop, replicate, sym, refl, ap, ◌∙◌, subst, ⊎_elim, arith}
+use Rattle.std.proofs.Common.{◌≡◌, ℕ, zero, suc, ◌+◌, ◌-◌, ◌<◌, ◌≤◌, Bool, true, false, cond, eqb, eqb-true, Option, Some, None, List, [], ◌∷◌, ◌++◌, map, length, get_or, take, drop, replicate, sym, refl, ap, ◌∙◌, subst, ⊎_elim, arith}
+use borrow.Author.Tests.{eqb-false}
 use Rattle.std.proofs.lemmas.Bool.{cases_lt}
 use Rattle.std.proofs.lemmas.Bool.Decides.{nat_tests}
-use Rattle.std.proofs.lemmas.List.{append_assoc, length-append, map-append, get_or-drop}
+use Rattle.std.proofs.lemmas.List.{append_assoc, length-append, map-append, get_or-drop, nil_from_length}
+use Rattle.terms.specs.Limits.{lamp_length}
 use Rattle.terms.specs.Marks.{newest}
 use Rattle.rows.specs.declared.lamp.Lamp.{Lamp}
 use Rattle.rows.specs.Laws.{all_joined, ring}
 use Rattle.rows.specs.Lamps.{no_lamp, better, lamp_joined, lamp_valid}
-use Rattle.rows.specs.LampTrees.{answers_in, answer_leaf, laid_out}
-use Rattle.rows.specs.LampRings.{Shows}
+use Rattle.rows.specs.LampTrees.{answers_in, answer_leaf, answers_from, laid_out, lamp_shown, LampKept}
+use Rattle.rows.specs.LampRings.{Shows, LampShows}
 use Rattle.rows.specs.LampLaws.{valid_says, valid_when, joined_at, lamp_laws}
 
 -- The answers of laid out leaves.
@@ -146,3 +148,17 @@ take_valid (suc n) (x ∷ xs) f (suc i) = take_valid n xs (λ j. f (suc j)) i
 
 pub ring_valid : (h : ℕ) (xs : List Lamp) → ((i : ℕ) → lamp_valid (get_or xs i no_lamp) ≡ true) → (i : ℕ) → lamp_valid (get_or (ring h xs) i no_lamp) ≡ true
 ring_valid h xs f = append_valid (drop h xs) (take h xs) (λ i. ap lamp_valid (get_or-drop h xs i no_lamp) ∙ f (h + i)) (take_valid h xs f)
+
+-- what the lamp shows of the answers in a ring
+tells_shown : (xs : List (ℕ × ℕ)) (l : Lamp) → LampTells xs l → (b : Bool) → eqb l.size 0 ≡ b → LampShows xs (cond b None (Some (l.gap, l.step)))
+tells_shown xs l t true e = let n = t.size_is in let z = eqb-true l.size 0 e in nil_from_length xs (omega arith)
+tells_shown xs l t false e = let n = t.size_is in let z = eqb-false l.size 0 e in t.shows (omega arith)
+
+pub lamp_shows : (head : ℕ) (leaves : List Lamp) → LampKept head leaves → (all : Lamp) → all ≡ all_joined no_lamp lamp_joined (ring head leaves) → (r : Option (ℕ × ℕ)) → r ≡ lamp_shown all → LampShows (answers_from head leaves) r
+lamp_shows head leaves k all e r s =
+    let xs : List (ℕ × ℕ) = answers_from head leaves in
+    let w : (i : ℕ) → lamp_valid (get_or (ring head leaves) i no_lamp) ≡ true = ring_valid head leaves k.valids in
+    let t : LampTells xs all =
+    subst (λ ys. LampTells xs ys) (sym (e ∙ ap (all_joined no_lamp lamp_joined) k.laid))
+    (lamp_tells_laid lamp_length xs (subst (λ ys. (i : ℕ) → lamp_valid (get_or ys i no_lamp) ≡ true) k.laid w)) in
+    subst (LampShows xs) (sym s) (tells_shown xs all t (eqb all.size 0) refl)

@@ -7,11 +7,10 @@ pub mod Climbs
 pub mod Builds
 pub mod Allowed
 pub mod RingMoves
-pub mod PlainRows
 pub mod Tells
 pub mod MarkRows
+pub mod PlainRows
 pub mod OneLeast
 pub mod LampTrees
 pub mod LampTells
 pub mod LampSteps
-pub mod KeptProps

@@ -1,7 +1,7 @@
 -- Two answers to the same question are equal.
-use Rattle.std.proofs.Common.{◌≡◌, ℕ, ◌≤◌, Bool, true, List, map, ℤ, ◌≤ℤ◌, ◌<ℤ◌, sym, ap, ◌∙◌, subst, ⊎_elim, arith}
+use Rattle.std.proofs.Common.{◌≡◌, ℕ, ◌≤◌, true, ◌&&◌, eqb, int_eq, List, map, ℤ, ◌≤ℤ◌, ◌<ℤ◌, sym, ap, ◌∙◌, subst, ⊎_elim, arith, eq-eqb, eqb-true}
 use Rattle.std.proofs.lemmas.Int.{ints}
-use Rattle.std.proofs.lemmas.Bool.{cases_lt}
+use Rattle.std.proofs.lemmas.Bool.{cases_lt, and_from, and_parts}
 use Rattle.terms.specs.Marks.{Least, least_sum}
 use Rattle.terms.proofs.Leasts.{least_found}
 use Rattle.rows.specs.declared.mark.Mark.{Mark}
@@ -15,6 +15,12 @@ not_longer zs l n n' a b =
     (λ h. let f : l <ℤ l = subst (λ x. l <ℤ x) b.has_sum (a.largest n' b.within h) in absurd (omega (arith, ints)))
     (λ h. h)
     (cases_lt n n')
+
+int_eq_true : (x y : ℤ) → x ≡ y → int_eq x y ≡ true
+int_eq_true x y e = grind (arith, ints)
+
+int_eq_says : (x y : ℤ) → int_eq x y ≡ true → x ≡ y
+int_eq_says x y h = grind (arith, ints)
 
 pub same_pair : (zs : List ℤ) (l l' : ℤ) (n n' : ℕ) → Least zs l n → Least zs l' n' → (l ≡ l') × (n ≡ n')
 same_pair zs l l' n n' a b =
@@ -32,18 +38,19 @@ always_one_least zs = record {
 
 -- a test that says whether two answers are equal says whether the rows answer alike
 pub alike : (xs ys : List Mark) (l l' : ℤ) (n n' : ℕ) → Least (map worth xs) l n → Least (map worth ys) l' n'
-    → (r : Bool) → (r ≡ true → (l ≡ l') × (n ≡ n')) → (l ≡ l' → n ≡ n' → r ≡ true) → Alike xs ys r
-alike xs ys l l' n n' a b r f g =
+    → Alike xs ys (int_eq l l' && eqb n n')
+alike xs ys l l' n n' a b =
     let p = (always_one_least (map worth xs)).only l n a in
     let q = (always_one_least (map worth ys)).only l' n' b in
+    let yes : l ≡ l' → n ≡ n' → (int_eq l l' && eqb n n') ≡ true = λ e d. and_from (int_eq l l') (eqb n n') (int_eq_true l l' e) (eq-eqb n n' d) in
     record {
       same_marks = λ e.
           let s = same_pair (map worth ys) l l' n n' (subst (λ ms. Least (map worth ms) l n) e a) b in
-          g s.0 s.1;
-      same_answer = λ e. g (p.0 ∙ ap (λ x. x.0) e ∙ sym q.0) (p.1 ∙ ap (λ x. x.1) e ∙ sym q.1);
+          yes s.0 s.1;
+      same_answer = λ e. yes (p.0 ∙ ap (λ x. x.0) e ∙ sym q.0) (p.1 ∙ ap (λ x. x.1) e ∙ sym q.1);
       exact = λ e.
-          let s = f e in
-          let u : (least_of xs).0 ≡ (least_of ys).0 = sym p.0 ∙ s.0 ∙ q.0 in
-          let v : (least_of xs).1 ≡ (least_of ys).1 = sym p.1 ∙ s.1 ∙ q.1 in
+          let s = and_parts (int_eq l l') (eqb n n') e in
+          let u : (least_of xs).0 ≡ (least_of ys).0 = sym p.0 ∙ int_eq_says l l' s.0 ∙ q.0 in
+          let v : (least_of xs).1 ≡ (least_of ys).1 = sym p.1 ∙ eqb-true n n' s.1 ∙ q.1 in
           λ i. (u i, v i);
     }

@@ -1,5 +1,5 @@
 -- Rings: one element on, and one element written.
-use Rattle.std.proofs.Common.{◌≡◌, ℕ, suc, ◌+◌, ◌-◌, ◌<◌, ◌≤◌, List, [], ◌∷◌, ◌++◌, length, take, drop, set, sym, ap, ◌∙◌, ⊎_elim, arith}
+use Rattle.std.proofs.Common.{◌≡◌, ℕ, suc, ◌+◌, ◌-◌, ◌*◌, ◌<◌, ◌≤◌, List, [], ◌∷◌, ◌++◌, length, take, drop, set, sym, ap, ◌∙◌, ⊎_elim, arith}
 use lib.Seq.{take-set-lt}
 use Rattle.std.proofs.lemmas.Bool.{cases_lt}
 use Rattle.std.proofs.lemmas.List.{append-nil, append_assoc, length-append, length-drop, drop-set-lt, drop-set-add, take-set-le, take_more_set, set_split, set-append_left, set-append_right, drop_more, drop_all, take-append-drop}
@@ -54,3 +54,6 @@ module _ {A : Type 0} (xs : List A) (h : ℕ) (y : A) where
       ∙ ap (λ k. drop h xs ++ set (take h xs) k y) (sym n)
       ∙ sym (set-append_right (drop h xs) (take h xs) (length xs - h) b y d (omega arith)))
       (cases_lt (h + b) (length xs))
+
+pub wrap_inside : (at len r : ℕ) → Wrapped at len r → at < 2 * len → r < len
+wrap_inside at len r w h = ⊎_elim (λ i. let e = w.inside i in omega arith) (λ i. let e = w.over i in omega arith) (cases_lt at len)

@@ -1,9 +1,9 @@
 -- The walk of `ring_total`, over the nodes of a tree.
-use Rattle.std.proofs.Common.{◌≡◌, ℕ, zero, suc, ◌+◌, ◌-◌, ◌*◌, ◌/◌, ◌%◌, ◌^◌, ◌<◌, ◌≤◌, Bool, true, List, length, get_or, take, drop, sym, ap, ◌∙◌, subst, ⊎_elim, arith, pow_pos}
+use Rattle.std.proofs.Common.{◌≡◌, ℕ, zero, suc, ◌+◌, ◌-◌, ◌*◌, ◌/◌, ◌%◌, ◌^◌, ◌<◌, ◌≤◌, Bool, true, List, length, get_or, take, drop, sym, refl, ap, ◌∙◌, subst, ⊎_elim, arith, pow_pos}
 use Rattle.std.proofs.lemmas.Bool.{cases_lt}
 use native.Mathlib.Nat.{pow-succ'}
-use Rattle.std.proofs.lemmas.List.{get_or-drop, get_or-take, length-drop, length-take, take_all, drop-drop, get_or_past, take-append-drop}
-use Rattle.rows.specs.Laws.{Laws, Kept, limit, all_joined, sizes, ring}
+use Rattle.std.proofs.lemmas.List.{get_or-drop, get_or-take, length-drop, length-take, take_all, drop-drop, get_or_past, get_or_default, take-append-drop}
+use Rattle.rows.specs.Laws.{Laws, Kept, Grown, limit, all_joined, sizes, ring}
 use Rattle.rows.proofs.Runs.{run, tall}
 use Rattle.rows.proofs.Walks.{Walk, begins, goes_left, goes_right, ends, old_size, new_size, tall_inside}
 use Rattle.rows.proofs.Totals.{run_total, total_append, sizes_append, size_total}
@@ -115,3 +115,113 @@ module _ {M : Type 0} {empty : M} {joined : M → M → M} {size : M → ℕ} {v
       (cases_lt i head) in
       ap (λ x. joined x newer) e.0 ∙ ap (joined _) e.1
       ∙ sym (total_append laws (drop head (drop (2 ^ depth) nodes)) (take head (drop (2 ^ depth) nodes)) v w ring_sizes)
+
+-- The walk in a tree of n nodes.
+pub record Circling {M : Type 0} (empty : M) (joined : M → M → M) (size : M → ℕ) (valid : M → Bool) (n : ℕ) (nodes : List M) (head at : ℕ) (older newer : M) : Type 0 where
+  pub depth : ℕ
+  pub level : ℕ
+  pub shape : n ≡ 2 * 2 ^ depth
+  pub long : length nodes ≡ 2 * 2 ^ depth
+  pub kept : Kept empty joined size valid depth nodes
+  pub below : head < 2 ^ depth
+  pub walk : Walk empty joined size valid (λ i. get_or nodes i empty) (2 ^ depth) head (2 ^ level) at older newer
+
+module _ {M : Type 0} {empty : M} {joined : M → M → M} {size : M → ℕ} {valid : M → Bool} (laws : Laws empty joined size valid)
+    (n : ℕ) (nodes : List M) (head : ℕ) where
+  pub circling_begins : Grown empty joined size valid n nodes → head < n / 2 → (x y : M) → y ≡ empty → Circling empty joined size valid n nodes head (n / 2 + head) (get_or nodes (n / 2 + head) x) y
+  circling_begins t h x y e =
+      let s = t.shape in
+      let long : length nodes ≡ 2 * 2 ^ t.depth = t.long ∙ s in
+      let below : head < 2 ^ t.depth = omega arith in
+      let at : 2 ^ t.depth + head ≡ n / 2 + head = omega arith in
+      record {
+        depth = t.depth;
+        level = t.depth;
+        shape = s;
+        long = long;
+        kept = t.kept;
+        below = below;
+        walk =
+            step_as laws t.depth nodes long t.kept head below (2 ^ t.depth)
+            at
+            (ap (λ i. get_or nodes i empty) at ∙ get_or_default nodes (n / 2 + head) empty x (omega arith))
+            (sym e)
+            (ring_begins laws t.depth nodes long t.kept head below);
+      }
+
+  module _ (at : ℕ) (older newer : M) (c : Circling empty joined size valid n nodes head at older newer) where
+    -- what the joins ask, and one turn
+    pub left_asks : (x : M) → 1 < at → at % 2 ≡ 0 → (valid older ≡ true) × ((valid (get_or nodes (at + 1) x) ≡ true) × (size older + size (get_or nodes (at + 1) x) ≤ limit))
+    left_asks x h e =
+        let s = c.walk in
+        let high = s.high in
+        let inside = s.inside in
+        let long = c.long in
+        let d = get_or_default nodes (at + 1) empty x (omega arith) in (
+          s.old_valid,
+          (
+            subst (λ z. valid z ≡ true) d (node_valid laws c.depth nodes c.long c.kept head c.below (at + 1)),
+            subst (λ z. size older + size z ≤ limit) d (left_fits laws c.depth nodes c.long c.kept head c.below c.level at older newer s h e),
+          ),
+        )
+
+    pub goes_on_left : (x older' newer' : M) → 1 < at → at % 2 ≡ 0 → older' ≡ joined older (get_or nodes (at + 1) x) → newer' ≡ newer → Circling empty joined size valid n nodes head (at / 2) older' newer'
+    goes_on_left x older' newer' h e p q =
+        let s = c.walk in
+        let high = s.high in
+        let inside = s.inside in
+        let long = c.long in
+        let d = get_or_default nodes (at + 1) empty x (omega arith) in
+        let r = ring_left laws c.depth nodes c.long c.kept head c.below c.level at older newer s h e in
+        record {
+          depth = c.depth;
+          level = r.0;
+          shape = c.shape;
+          long = c.long;
+          kept = c.kept;
+          below = c.below;
+          walk = step_as laws c.depth nodes c.long c.kept head c.below (2 ^ r.0) refl (ap (joined older) d ∙ sym p) (sym q) r.1;
+        }
+
+    pub right_asks : (x : M) → 1 < at → (at % 2 ≡ 0 → ⊥) → (valid (get_or nodes (at - 1) x) ≡ true) × ((valid newer ≡ true) × (size (get_or nodes (at - 1) x) + size newer ≤ limit))
+    right_asks x h e =
+        let s = c.walk in
+        let high = s.high in
+        let inside = s.inside in
+        let long = c.long in
+        let d = get_or_default nodes (at - 1) empty x (omega arith) in (
+          subst (λ z. valid z ≡ true) d (node_valid laws c.depth nodes c.long c.kept head c.below (at - 1)),
+          (
+            s.new_valid,
+            subst (λ z. size z + size newer ≤ limit) d (right_fits laws c.depth nodes c.long c.kept head c.below c.level at older newer s h e),
+          ),
+        )
+
+    pub goes_on_right : (x older' newer' : M) → 1 < at → (at % 2 ≡ 0 → ⊥) → older' ≡ older → newer' ≡ joined (get_or nodes (at - 1) x) newer → Circling empty joined size valid n nodes head (at / 2) older' newer'
+    goes_on_right x older' newer' h e p q =
+        let s = c.walk in
+        let high = s.high in
+        let inside = s.inside in
+        let long = c.long in
+        let d = get_or_default nodes (at - 1) empty x (omega arith) in
+        let r = ring_right laws c.depth nodes c.long c.kept head c.below c.level at older newer s h e in
+        record {
+          depth = c.depth;
+          level = r.0;
+          shape = c.shape;
+          long = c.long;
+          kept = c.kept;
+          below = c.below;
+          walk = step_as laws c.depth nodes c.long c.kept head c.below (2 ^ r.0) refl (sym p) (ap (λ u. joined u newer) d ∙ sym q) r.1;
+        }
+
+    pub ends_ask : at ≤ 1 → (valid older ≡ true) × ((valid newer ≡ true) × (size older + size newer ≤ limit))
+    ends_ask h =
+        let s = c.walk in
+        (s.old_valid, (s.new_valid, ends_fit laws c.depth nodes c.long c.kept head c.below c.level at older newer s h))
+
+    pub all_round : at ≤ 1 → (all : M) (leaves : List M) → all ≡ joined older newer → drop (n / 2) nodes ≡ leaves → all ≡ all_joined empty joined (ring head leaves)
+    all_round h all leaves e is =
+        let half : 2 ^ c.depth ≡ n / 2 = let s = c.shape in omega arith in
+        e ∙ ring_ends laws c.depth nodes c.long c.kept head c.below c.level at older newer c.walk h
+        ∙ ap (λ ys. all_joined empty joined (ring head ys)) (ap (λ a. drop a nodes) half ∙ is)

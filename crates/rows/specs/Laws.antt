@@ -1,5 +1,5 @@
 -- What a summary owes, and what a row of summaries comes to.
-use Rattle.std.specs.Prelude.{◌≡◌, ℕ, ◌+◌, ◌*◌, ◌^◌, ◌<◌, ◌≤◌, Bool, true, List, [], ◌∷◌, ◌++◌, length, take, drop, slice_index_or, slice_set}
+use Rattle.std.specs.Prelude.{◌≡◌, ℕ, ◌+◌, ◌*◌, ◌^◌, ◌<◌, ◌≤◌, Bool, true, List, [], ◌∷◌, ◌++◌, length, take, drop, slice_index_or}
 use Rattle.terms.specs.Limits.{widest_row}
 
 -- the largest joined size up to which brackets do not matter
@@ -39,9 +39,17 @@ pub record Kept {M : Type 0} (empty : M) (joined : M → M → M) (size : M → 
   pub valids : (i : ℕ) → i < length nodes → valid (slice_index_or nodes i empty) ≡ true
   pub few : sizes size (drop (2 ^ depth) nodes) ≤ limit
 
--- ys has the leaves of xs, with v in place k
-abbrev pub LeafSet : {M : Type 0} → ℕ → List M → ℕ → M → List M → Type 0
-LeafSet depth xs k v ys = drop (2 ^ depth) ys ≡ slice_set (drop (2 ^ depth) xs) k v
+-- n nodes make a tree: two for each of its leaves, which are a power of two
+abbrev pub TreeSize : ℕ → Type 0
+TreeSize n = (depth : ℕ) × (n ≡ 2 * 2 ^ depth)
+
+-- what a tree of n nodes is
+pub record Grown {M : Type 0} (empty : M) (joined : M → M → M) (size : M → ℕ) (valid : M → Bool)
+    (n : ℕ) (nodes : List M) : Type 0 where
+  pub depth : ℕ
+  pub shape : n ≡ 2 * 2 ^ depth
+  pub long : length nodes ≡ n
+  pub kept : Kept empty joined size valid depth nodes
 
 -- r is the place, in a ring of len, of what stands at places after its first
 pub record Wrapped (at len r : ℕ) : Type 0 where

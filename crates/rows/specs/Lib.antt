@@ -3,7 +3,6 @@ pub mod Marks
 pub mod Lamps
 pub mod Rows
 pub mod OneLeast
-pub mod PlainSums
 pub mod TreeRows
 pub mod LampTrees
 pub mod LampRings

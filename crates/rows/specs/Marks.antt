@@ -1,5 +1,7 @@
 -- What joining does to summaries of marks.
-use Rattle.std.specs.Prelude.{ℕ, ◌+◌, Bool, cond, not, ◌&&◌, ◌||◌, ℤ, pos, ◌+ℤ◌, neg_ℤ, ◌==◌, int_le, nat_le}
+use Rattle.std.specs.Prelude.{ℕ, ◌+◌, Bool, cond, not, ◌&&◌, ◌||◌, ℤ, pos, negsuc, ◌+ℤ◌, neg_ℤ, ◌==◌, int_le, nat_le}
+use Rattle.rows.specs.declared.mark.Mark.{Mark}
+use Rattle.rows.specs.declared.mark.Mark.TheVariants.{Plus, Minus}
 use Rattle.rows.specs.declared.marks.Marks.{Marks}
 
 abbrev pub marks_of : ℕ → ℤ → ℤ → ℕ → Marks
@@ -7,6 +9,11 @@ marks_of n s l k = record { size = n; sum = s; least = l; span = k }
 
 abbrev pub no_marks : Marks
 no_marks = marks_of 0 (pos 0) (pos 0) 0
+
+-- the summary of one mark
+abbrev pub leaf_of : Mark → Marks
+leaf_of Plus = marks_of 1 (pos 1) (pos 0) 0
+leaf_of Minus = marks_of 1 (negsuc 0) (negsuc 0) 1
 
 -- whether the least sum of both reaches into the older marks
 abbrev pub reaches : Marks → Marks → Bool

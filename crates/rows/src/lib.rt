@@ -9,6 +9,5 @@ pub mod plain;
 mod refusals;
 pub mod row;
 mod summary;
-mod sums;
 mod tree;
 pub mod tree_row;

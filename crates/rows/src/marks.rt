@@ -1,24 +1,40 @@
 ghost use Rattle.std.specs.Prelude.{◌≡◌};
-ghost use Rattle.rows.specs.Marks.{no_marks, marks_joined, marks_valid};
+ghost use Rattle.rows.specs.Marks.{leaf_of, no_marks, marks_joined, marks_valid};
 ghost use Rattle.rows.specs.MarkLaws.{marks_laws};
 
+use crate::mark::Mark;
 use crate::summary::Summary;
 
 // What neighbouring marks come to: how many they are, their sum, the least sum of any number of the newest of them,
 // and the largest number of marks that has it.
 #[derive(Clone, Copy)]
-pub struct Marks {
+pub(crate) struct Marks {
     pub size: u32,
     pub sum: i32,
     pub least: i32,
     pub span: u32,
 }
 
-// The least sum and its span.
-pub fn answer(all: Marks) -> (i32, u32)
-    ensures { (result.0 ≡ all.least) × (result.1 ≡ all.span) }
-{
-    (all.least, all.span)
+// The summary of one mark.
+impl From<Mark> for Marks {
+    ghost from_gives = { λ m s. s ≡ leaf_of m };
+
+    fn from(m: Mark) -> Marks {
+        match m {
+            Mark::Plus => Marks {
+                size: 1,
+                sum: 1,
+                least: 0,
+                span: 0,
+            },
+            Mark::Minus => Marks {
+                size: 1,
+                sum: -1,
+                least: -1,
+                span: 1,
+            },
+        }
+    }
 }
 
 impl Summary for Marks {
@@ -42,23 +58,19 @@ impl Summary for Marks {
     }
 
     fn join(older: Marks, newer: Marks) -> Marks {
-        let size = older.size + newer.size;
-        let sum = older.sum + newer.sum;
         let through = newer.sum + older.least;
+        let both = Marks {
+            size: older.size + newer.size,
+            sum: older.sum + newer.sum,
+            ..newer
+        };
         if through <= newer.least {
-            Marks {
-                size,
-                sum,
+            return Marks {
                 least: through,
                 span: newer.size + older.span,
-            }
-        } else {
-            Marks {
-                size,
-                sum,
-                least: newer.least,
-                span: newer.span,
-            }
+                ..both
+            };
         }
+        both
     }
 }

@@ -1,27 +1,25 @@
 ghost use Rattle.std.specs.Prelude.{◌≡◌};
-ghost use Rattle.terms.specs.Refusals.{start_refusal, lift_refusal};
+ghost use Rattle.terms.specs.Refusals.{start_refusal, lift_refusal, verdict};
 
 use terms::limits::WIDEST_ROW;
 use terms::refusal::Refusal;
 
-// Whether a start with `count` marks is turned away.
-pub fn start_refused(count: usize) -> Option<Refusal>
-    ensures { result ≡ start_refusal count }
+// Turns a start with `count` marks away, or lets it pass.
+pub(crate) fn start_refused(count: usize) -> Result<(), Refusal>
+    ensures { result ≡ verdict (start_refusal count) }
 {
     if count == 0 || count > WIDEST_ROW {
-        Some(Refusal::RowWidth)
-    } else {
-        None
+        return Err(Refusal::RowWidth);
     }
+    Ok(())
 }
 
-// Whether a lift at an age is turned away by a row of `len` marks.
-pub fn lift_refused(len: usize, age: usize) -> Option<Refusal>
-    ensures { result ≡ lift_refusal len age }
+// Turns a lift at an age away that a row of `len` marks has not, or lets it pass.
+pub(crate) fn lift_refused(len: usize, age: usize) -> Result<(), Refusal>
+    ensures { result ≡ verdict (lift_refusal len age) }
 {
     if age >= len {
-        Some(Refusal::MarkAge)
-    } else {
-        None
+        return Err(Refusal::MarkAge);
     }
+    Ok(())
 }

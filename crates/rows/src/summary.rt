@@ -2,7 +2,7 @@ ghost use Rattle.std.specs.Prelude.{◌≡◌, ℕ, ◌+◌, ◌≤◌, Bool, tr
 ghost use Rattle.rows.specs.Laws.{Laws, limit};
 
 // What neighbouring leaves of a tree come to, in at most four whole numbers. Joins do not depend on the bracketing.
-pub trait Summary: Copy {
+pub(crate) trait Summary: Copy {
     // The summary of nothing.
     ghost empty: { Self };
 

@@ -1,5 +1,5 @@
 pub mod Answer
-pub mod Equal
+pub mod Cut
 pub mod Checks
 pub mod Once
 pub mod Rows

@@ -38,46 +38,7 @@ once_steps k bs place n e e' f f' =
     same e e' (f.4 ∙ sym f'.4) (f.5 ∙ ap (λ m. place + m * step_size k) eq ∙ sym f'.5)
 
 all_once : (k : Kind) (bs : List ℕ) → AllOnce (checks_at k bs)
-all_once k bs = (
-  once_check _ _ _,
-  (
-    once_check _ _ _,
-    (
-      once_check _ _ _,
-      (
-        once_check _ _ _,
-        (
-          once_check _ _ _,
-          (
-            once_check _ _ _,
-            (
-              once_check _ _ _,
-              (
-                once_steps k bs _ _,
-                (
-                  once_check _ _ _,
-                  (
-                    once_check _ _ _,
-                    (
-                      once_check _ _ _,
-                      (
-                        once_steps k bs _ _,
-                        (
-                          once_check _ _ _,
-                          tt,
-                        ),
-                      ),
-                    ),
-                  ),
-                ),
-              ),
-            ),
-          ),
-        ),
-      ),
-    ),
-  ),
-)
+all_once k bs = search (once_check, once_steps)
 
 pub decided : Decided
 decided bs = first_once (sheet_checks bs) (all_once (kind_of bs) bs)

@@ -1,8 +1,7 @@
 -- The bytes that pass every check are the sheets of contents in the limits.
-use Rattle.std.proofs.Common.{◌≡◌, ℕ, ◌+◌, ◌*◌, ◌/◌, ◌%◌, ◌<◌, ◌≤◌, List, [], ◌∷◌, ◌++◌, length, get_or, take, drop, sym, refl, ap, ◌∙◌, subst, arith, length-append, length-drop, take-append-drop}
+use Rattle.std.proofs.Common.{◌≡◌, ℕ, ◌+◌, ◌*◌, ◌/◌, ◌%◌, ◌<◌, ◌≤◌, List, [], ◌∷◌, ◌++◌, length, get_or, take, drop, sym, refl, ap, ◌∙◌, subst, arith, rules, length-append, length-drop, take-append-drop}
 use Rattle.std.proofs.lemmas.List.{drop-drop, take_at, drop_at, take_all, get_or-drop}
 use Rattle.std.specs.List.{flat_map}
-use Rattle.terms.specs.Limits.{longest_phrase, longest_listed}
 use Rattle.sheets.specs.declared.kind.Kind.{Kind}
 use Rattle.sheets.specs.declared.kind.Kind.TheVariants.{Lanes, Masks, Notes}
 use Rattle.sheets.specs.Layout.{AllSteps, Lettered, letter_of, kind_at, step_size, StepOf, bytes_of, two, four, Content, Allowed, sheet_of}
@@ -185,46 +184,11 @@ module _ (k : Kind) (q : ℕ) (ph pl : List (StepOf k)) where
   end_at = (λ i. place i + 4 + taken i * step_size k) ∙ omega (arith, long)
 
   pub passes : Allowed content → AllPass (checks_at k sheet)
-  passes a = (
-    omega (arith, long),
-    (
-      (k, refl),
-      (
-        omega (arith, long),
-        (
-          subst (λ m. 0 < m) (sym count_two) a.some,
-          (
-            subst (λ m. m ≤ longest_phrase) (sym count_two) a.short,
-            (
-              (a.figure_some, subst (λ m. q ≤ m) (sym count_two) a.figure_fits, a.figure_most),
-              (
-                subst (λ m. 4 + m * step_size k ≤ length sheet) (sym count_two) (omega (arith, long)),
-                (
-                  sound_phrase,
-                  (
-                    subst (λ p. p + 4 ≤ length sheet) (sym place) (omega (arith, long)),
-                    (
-                      subst (λ n. n ≤ longest_listed) (sym taken) a.played_most,
-                      (
-                        omega (arith, end_at),
-                        (
-                          sound_take,
-                          (
-                            omega (arith, end_at),
-                            tt,
-                          ),
-                        ),
-                      ),
-                    ),
-                  ),
-                ),
-              ),
-            ),
-          ),
-        ),
-      ),
-    ),
-  )
+  passes a =
+      let letter : Lettered (letter_of k) = (k, refl) in
+      let there : 4 + phrase_count sheet * step_size k ≤ length sheet = rw count_two (omega (arith, long)) in
+      let counted : count_place k sheet + 4 ≤ length sheet = rw place (omega (arith, long)) in
+      search (rules, count_two, taken, long, sound_phrase, sound_take, end_at)
 
 pub all_pass : (c : Content) → Allowed c → AllPass (sheet_checks (sheet_of c))
 all_pass c a = subst (λ k. AllPass (checks_at k (sheet_of c))) (sym (known c.kind)) (passes c.kind c.figure c.phrase c.played a)

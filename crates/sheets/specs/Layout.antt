@@ -1,5 +1,5 @@
 -- What a sheet is, as the bytes of what it holds.
-use Rattle.std.specs.Prelude.{◌≡◌, ℕ, ◌+◌, ◌*◌, ◌/◌, ◌%◌, ◌<◌, ◌≤◌, cond, List, [], ◌∷◌, ◌++◌, length, take, drop, ◌==◌}
+use Rattle.std.specs.Prelude.{◌≡◌, ℕ, ◌+◌, ◌*◌, ◌/◌, ◌%◌, ◌<◌, ◌≤◌, cond, List, [], ◌∷◌, ◌++◌, length, take, drop, ◌==◌, Result, MatchResult}
 use Rattle.std.specs.List.{flat_map}
 use Rattle.steps.specs.declared.lane.Lane.{Lane}
 use Rattle.steps.specs.declared.mask.Mask.{Mask}
@@ -27,6 +27,13 @@ AllSteps bytes w bs k = (i : ℕ) → i < k → Written bytes (part w bs i)
 abbrev pub FirstBad : {S : Type 0} → (S → List ℕ) → ℕ → List ℕ → ℕ → ℕ → Refusal → ℕ → Type 0
 FirstBad bytes w bs n place cause at =
     (i : ℕ) × (i < n) × AllSteps bytes w bs i × (Written bytes (part w bs i) → ⊥) × (cause ≡ UnknownStep) × (at ≡ place + i * w)
+
+-- the sound of the step that the bytes are, whichever it is; they are refused where they are none
+abbrev pub SoundTold : {S : Type 0} → (S → List ℕ) → (S → ℕ) → List ℕ → Result ℕ Refusal → Type 0
+SoundTold {S} bytes sound bs r =
+    MatchResult r
+    (λ n. Written bytes bs × ((s : S) → bytes s ≡ bs → n ≡ sound s))
+    (λ e. (Written bytes bs → ⊥) × (e ≡ UnknownStep))
 
 -- `L`, `M` and `N`
 abbrev pub letter_of : Kind → ℕ

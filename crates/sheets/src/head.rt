@@ -1,9 +1,9 @@
-ghost use Rattle.std.specs.Prelude.{◌≡◌, ◌≤◌, length};
-ghost use Rattle.sheets.specs.Inner.{HeadTold, CountTold};
+ghost use Rattle.sheets.specs.Inner.{HeadTold};
 
 use crate::fault::SheetRefusal;
 use crate::kind::Kind;
-use terms::limits::{LONGEST_FIGURE, LONGEST_LISTED, LONGEST_PHRASE};
+use crate::rest::Rest;
+use terms::limits::{LONGEST_FIGURE, LONGEST_PHRASE};
 use terms::refusal::Refusal;
 
 // What stands before the phrase.
@@ -11,56 +11,33 @@ use terms::refusal::Refusal;
 pub(crate) struct Head {
     pub(crate) kind: Kind,
     pub(crate) figure: usize,
-    pub(crate) count: usize,
+    pub(crate) count: u32,
 }
 
-fn refuse(cause: Refusal, place: usize) -> SheetRefusal
-    ensures { (result.cause ≡ cause) × (result.place ≡ place) }
+// The head of a sheet, and the rest.
+pub(crate) fn read_head(sheet: &[u8]) -> Result<(Head, Rest<'_>), SheetRefusal>
+    ensures { HeadTold sheet.entry result }
 {
-    SheetRefusal { cause, place }
-}
-
-pub(crate) fn read_head(sheet: &[u8]) -> Result<Head, SheetRefusal>
-    ensures { HeadTold sheet.now result }
-{
-    if sheet.len() < 1 {
-        return Err(refuse(Refusal::NotWhole, sheet.len()));
+    let mut rest = Rest { sheet, place: 0 };
+    let [letter] = rest.field::<1>()?;
+    let kind = Kind::try_from(letter).map_err(|cause| SheetRefusal::new(cause, 0))?;
+    let [figure, low, high] = rest.field::<3>()?;
+    let figure = usize::from(figure);
+    let count = u16::from_le_bytes([low, high]);
+    let length = usize::from(count);
+    if length == 0 {
+        return Err(SheetRefusal::new(Refusal::EmptyPhrase, 2));
     }
-    let Some(kind) = Kind::from_letter(sheet[0]) else {
-        return Err(refuse(Refusal::UnknownKind, 0));
-    };
-    if sheet.len() < 4 {
-        return Err(refuse(Refusal::NotWhole, sheet.len()));
+    if length > LONGEST_PHRASE {
+        return Err(SheetRefusal::new(Refusal::LongPhrase, 2));
     }
-    let figure = sheet[1] as usize;
-    let count = sheet[2] as usize + 256 * sheet[3] as usize;
-    if count == 0 {
-        return Err(refuse(Refusal::EmptyPhrase, 2));
+    if figure == 0 || figure > length || figure > LONGEST_FIGURE {
+        return Err(SheetRefusal::new(Refusal::FigureLength, 1));
     }
-    if count > LONGEST_PHRASE {
-        return Err(refuse(Refusal::LongPhrase, 2));
-    }
-    if figure == 0 || figure > count || figure > LONGEST_FIGURE {
-        return Err(refuse(Refusal::FigureLength, 1));
-    }
-    Ok(Head {
+    let head = Head {
         kind,
         figure,
-        count,
-    })
-}
-
-pub(crate) fn read_count(sheet: &[u8], place: usize) -> Result<usize, SheetRefusal>
-    requires { place ≤ length sheet.now }
-    ensures { CountTold sheet.now place result }
-{
-    if sheet.len() - place < 4 {
-        return Err(refuse(Refusal::NotWhole, sheet.len()));
-    }
-    let low = sheet[place] as usize + 256 * sheet[place + 1] as usize;
-    let high = 65_536 * sheet[place + 2] as usize + 16_777_216 * sheet[place + 3] as usize;
-    if low + high > LONGEST_LISTED {
-        return Err(refuse(Refusal::LongTake, place));
-    }
-    Ok(low + high)
+        count: count.into(),
+    };
+    Ok((head, rest))
 }

@@ -1,31 +1,22 @@
 ghost use Rattle.std.specs.Prelude.{◌≡◌, ◌+◌, ◌*◌, ◌^◌, ◌<◌, length};
+ghost use Rattle.sheets.specs.Layout.{step_size};
 ghost use Rattle.sheets.specs.Inner.{StepsTold};
 
 use crate::fault::StepFault;
-use steps::step::Step;
+use crate::kind::Kind;
+use crate::parts::Part;
 
-// Judges `count` steps that stand at `place` of the sheet, front to back.
-pub(crate) fn judge<S: Step + Drop>(
-    bytes: &[u8],
-    count: usize,
-    place: usize,
-) -> Result<(), StepFault>
-    requires few { length bytes.now ≡ count * S.Step.size }
-    requires room { place + length bytes.now < 2 ^ 64 }
-    ensures { StepsTold S.Step.bytes S.Step.size bytes.now count place result }
+// Judges the steps of a part, front to back.
+pub(crate) fn judge(kind: Kind, part: Part<'_>) -> Result<(), StepFault>
+    requires long { length part.bytes.now ≡ part.count * step_size kind }
+    requires room { part.place + length part.bytes.now < 2 ^ 64 }
+    ensures { StepsTold kind part.entry result }
 {
-    let size = S::byte_count();
-    for i in 0..count {
-        let at = i * size;
-        match S::decode(&bytes[at..at + size]) {
-            Ok(_) => {}
-            Err(cause) => {
-                return Err(StepFault {
-                    cause,
-                    place: place + at,
-                });
-            }
-        }
+    let size = kind.step_bytes();
+    for (i, step) in part.bytes.chunks_exact(size).enumerate() {
+        let place = part.place + i * size;
+        kind.sound(step)
+            .map_err(|cause| StepFault { cause, place })?;
     }
     Ok(())
 }

@@ -1,10 +1,13 @@
-ghost use Rattle.std.specs.Prelude.{◌≡◌, MatchOption};
-ghost use Rattle.sheets.specs.Layout.{Lettered, letter_of, step_size, kind_at};
+ghost use Rattle.std.specs.Prelude.{◌≡◌, ◌≤◌, MatchResult};
+ghost use Rattle.terms.specs.declared.refusal.Refusal.TheVariants.{UnknownKind};
+ghost use Rattle.terms.specs.Limits.{widest_step};
+ghost use Rattle.sheets.specs.Layout.{Lettered, SoundTold, bytes_of, kind_at, letter_of, sound_of, step_size};
 
 use steps::lane::Lane;
 use steps::mask::Mask;
 use steps::note::Note;
 use steps::step::Step;
+use terms::refusal::Refusal;
 
 // Which kind of step a sheet has.
 #[derive(Clone, Copy, Debug, PartialEq, Eq)]
@@ -14,32 +17,42 @@ pub enum Kind {
     Notes,
 }
 
-impl Kind {
-    // The kind that has this letter.
-    pub fn from_letter(letter: u8) -> Option<Kind>
-        ensures { MatchOption result (Lettered letter → ⊥) (λ k. (letter_of k ≡ letter) × (k ≡ kind_at letter)) }
-    {
+// The kind that has this letter.
+impl TryFrom<u8> for Kind {
+    type Error = Refusal;
+
+    ghost try_from_gives = { λ b r.
+        MatchResult r (λ k. (letter_of k ≡ b) × (k ≡ kind_at b)) (λ e. (e ≡ UnknownKind) × (Lettered b → ⊥)) };
+
+    fn try_from(letter: u8) -> Result<Kind, Refusal> {
         match letter {
-            b'L' => Some(Kind::Lanes),
-            b'M' => Some(Kind::Masks),
-            b'N' => Some(Kind::Notes),
-            _ => None,
+            b'L' => Ok(Kind::Lanes),
+            b'M' => Ok(Kind::Masks),
+            b'N' => Ok(Kind::Notes),
+            _ => Err(Refusal::UnknownKind),
         }
     }
+}
 
-    pub fn letter(self) -> u8
-        ensures { result ≡ letter_of self }
-    {
-        match self {
+// The letter of a kind.
+impl From<Kind> for u8 {
+    ghost from_gives = { λ k b. b ≡ letter_of k };
+
+    fn from(kind: Kind) -> u8 {
+        match kind {
             Kind::Lanes => b'L',
             Kind::Masks => b'M',
             Kind::Notes => b'N',
         }
     }
+}
 
+impl Kind {
     // The bytes of a step of the kind.
     pub fn step_bytes(self) -> usize
-        ensures { result ≡ step_size self }
+        ensures size { result ≡ step_size self }
+        ensures some { 1 ≤ result }
+        ensures wide { result ≤ widest_step }
     {
         match self {
             Kind::Lanes => Lane::BYTES,
@@ -47,4 +60,22 @@ impl Kind {
             Kind::Notes => Note::BYTES,
         }
     }
+
+    // The sound of the step that these bytes are, all of them; refused where they are no step of the kind.
+    pub fn sound(self, bytes: &[u8]) -> Result<u32, Refusal>
+        ensures { SoundTold (bytes_of self) (sound_of self) bytes.now result }
+    {
+        match self {
+            Kind::Lanes => sound_of_bytes::<Lane>(bytes),
+            Kind::Masks => sound_of_bytes::<Mask>(bytes),
+            Kind::Notes => sound_of_bytes::<Note>(bytes),
+        }
+    }
+}
+
+// The same for one type of step, whose bound brings the law that equal bytes have equal sounds.
+fn sound_of_bytes<S: Step>(bytes: &[u8]) -> Result<u32, Refusal>
+    ensures { SoundTold S.Step.bytes S.Step.sound bytes.now result }
+{
+    S::decode(bytes).map(S::sound)
 }

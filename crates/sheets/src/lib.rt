@@ -7,4 +7,4 @@ mod judge;
 pub mod kind;
 pub mod parts;
 pub mod read;
-mod section;
+mod rest;

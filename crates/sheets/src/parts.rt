@@ -4,7 +4,7 @@ ghost use Rattle.std.specs.Prelude.{◌≡◌};
 use crate::kind::Kind;
 
 // A part of a sheet: its place, how many steps it has, and their bytes.
-#[derive(Clone, Copy)]
+#[derive(Clone, Copy, Debug, PartialEq, Eq)]
 pub struct Part<'a> {
     pub place: usize,
     pub count: usize,
@@ -12,7 +12,7 @@ pub struct Part<'a> {
 }
 
 // The steps of a sheet's phrase or of its take.
-#[derive(Clone, Copy)]
+#[derive(Clone, Copy, Debug, PartialEq, Eq)]
 pub enum Section<'a> {
     Phrase(Part<'a>),
     Take(Part<'a>),
@@ -23,14 +23,13 @@ impl<'a> Section<'a> {
         ensures { result ≡ part_of self.entry }
     {
         match self {
-            Section::Phrase(part) => part,
-            Section::Take(part) => part,
+            Section::Phrase(part) | Section::Take(part) => part,
         }
     }
 }
 
 // A sheet that was judged.
-#[derive(Clone, Copy)]
+#[derive(Clone, Copy, Debug, PartialEq, Eq)]
 pub struct Sheet<'a> {
     pub kind: Kind,
     pub figure: usize,

@@ -15,15 +15,6 @@ pub struct Note {
     shift: u8,
 }
 
-// The constants of notes, pinned.
-pub fn note_constants() -> (u32, usize)
-    ensures sounds { ⟦<Note as Step>⟧.SOUNDS ≡ 47 }
-    ensures bytes { ⟦<Note as Step>⟧.BYTES ≡ 3 }
-    ensures told { (result.0 ≡ 47) × (result.1 ≡ 3) }
-{
-    (Note::SOUNDS, Note::BYTES)
-}
-
 impl Note {
     pub fn new(pad: u8, velocity: u8, offset: i8) -> Result<Note, Refusal>
         ensures { NoteTold pad velocity offset result }
@@ -65,17 +56,13 @@ impl Step for Note {
 
     const BYTES: usize = 3;
 
-    ghost SOUNDS = { 47 };
+    ghost SOUNDS = { note_sounds };
 
     ghost BYTES = { 3 };
 
     ghost sound = { note_sound };
 
-    ghost sounds = { note_sounds };
-
     ghost bytes = { note_bytes };
-
-    ghost size = { 3 };
 
     ghost below = { Prim.search rules };
 
@@ -87,48 +74,25 @@ impl Step for Note {
 
     ghost heard = { Prim.search rules };
 
-    fn sound_count() -> u32 {
-        Self::SOUNDS
-    }
-
-    fn byte_count() -> usize {
-        Self::BYTES
-    }
-
     fn sound(self) -> u32 {
-        let pad = self.pad();
-        let velocity = self.velocity();
-        if pad == 15 {
-            return 1;
-        }
-        match velocity {
-            0 => 0,
-            1..=39 => 2 + 3 * pad as u32,
-            40..=99 => 3 + 3 * pad as u32,
-            _ => 4 + 3 * pad as u32,
+        let pad = u32::from(self.pad());
+        match (pad, self.velocity()) {
+            (15, _) => 1,
+            (_, 0) => 0,
+            (_, 1..=39) => 2 + 3 * pad,
+            (_, 40..=99) => 3 + 3 * pad,
+            _ => 4 + 3 * pad,
         }
     }
 
     fn encode(self) -> [u8; WIDEST_STEP] {
-        [
-            self.pad(),
-            self.velocity(),
-            (self.shift % 49).wrapping_add(232),
-        ]
+        [self.pad(), self.velocity(), self.offset().cast_unsigned()]
     }
 
     fn decode(from: &[u8]) -> Result<Note, Refusal> {
-        let [pad, velocity, offset] = from else {
-            return Err(Refusal::UnknownStep);
-        };
-        let shift = offset.wrapping_add(24);
-        if *pad > 15 || *velocity > 127 || shift > 48 {
-            return Err(Refusal::UnknownStep);
+        match from {
+            [pad, velocity, offset] => Note::new(*pad, *velocity, offset.cast_signed()),
+            _ => Err(Refusal::UnknownStep),
         }
-        Ok(Note {
-            pad: *pad,
-            velocity: *velocity,
-            shift,
-        })
     }
 }

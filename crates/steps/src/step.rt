@@ -19,21 +19,23 @@ pub trait Step: Copy {
 
     ghost BYTES: { ℕ };
 
-    // A step's sound number, and the count of sounds.
+    // A step's sound number.
     ghost sound: { Self → ℕ };
 
-    ghost sounds: { ℕ };
-
-    // A step's bytes in a sheet, and how many they are.
+    // A step's bytes in a sheet.
     ghost bytes: { Self → List ℕ };
 
-    ghost size: { ℕ };
-
     fn sound_count() -> u32
-        ensures { result ≡ sounds };
+        ensures { result ≡ SOUNDS }
+    {
+        Self::SOUNDS
+    }
 
     fn byte_count() -> usize
-        ensures { result ≡ size };
+        ensures { result ≡ BYTES }
+    {
+        Self::BYTES
+    }
 
     fn sound(self) -> u32
         ensures { result ≡ sound self };
@@ -46,14 +48,21 @@ pub trait Step: Copy {
     fn decode(from: &[u8]) -> Result<Self, Refusal>
         ensures { Decoded bytes from.now result };
 
-    ghost below: { (x : Self) → sound x < sounds };
+    ghost below: { (x : Self) → sound x < SOUNDS };
 
-    ghost sized: { (x : Self) → length (bytes x) ≡ size };
+    ghost sized: { (x : Self) → length (bytes x) ≡ BYTES };
 
-    ghost some: { 1 ≤ size };
+    ghost some: { 1 ≤ BYTES };
 
-    ghost wide: { size ≤ widest_step };
+    ghost wide: { BYTES ≤ widest_step };
 
     // What a sheet keeps of a step decides its sound.
     ghost heard: { (x y : Self) → bytes x ≡ bytes y → sound x ≡ sound y };
+}
+
+// The two constants of a kind.
+pub fn constants<S: Step>() -> (u32, usize)
+    ensures { (result.0 ≡ S.Step.SOUNDS) × (result.1 ≡ S.Step.BYTES) }
+{
+    (S::SOUNDS, S::BYTES)
 }

@@ -1,3 +1,4 @@
+pub mod Bettered
 pub mod Limits
 pub mod Refusals
 pub mod Figures

@@ -1,5 +1,5 @@
 -- The table of refusals: each case with its number and its layer, and for each call the lines that turn it away, in order.
-use Rattle.std.specs.Prelude.{ℕ, ◌+◌, Bool, true, cond, not, ◌&&◌, ◌||◌, List, [], ◌∷◌, ◌++◌, length, Some, None, codes, Option, ◌==◌, nat_le, nat_lt}
+use Rattle.std.specs.Prelude.{ℕ, ◌+◌, Bool, true, cond, not, ◌&&◌, ◌||◌, List, [], ◌∷◌, ◌++◌, length, Some, None, codes, Option, Ok, Err, Result, ◌==◌, nat_le, nat_lt}
 use Rattle.terms.specs.Limits.{longest_phrase, longest_figure, widest_row, longest_take}
 use Rattle.terms.specs.declared.refusal.Refusal.{Refusal}
 use Rattle.terms.specs.declared.refusal.Refusal.TheVariants.{UnknownStep, EmptyPhrase, LongPhrase, FigureLength, PastReach, UnknownSound, RowWidth, MarkAge, UnevenLists, EmptySlot, FullTake, OtherLength, NoBest, ShortPattern, NotWhole, BytesAfter, UnknownKind, LongTake}
@@ -40,6 +40,11 @@ when b e = record { holds = b; refusal = e }
 abbrev pub first_of : List Line → Option Refusal
 first_of [] = None
 first_of (l ∷ ls) = cond l.holds (Some l.refusal) (first_of ls)
+
+-- the result of a call that a refusal turns away, or that none does
+abbrev pub verdict : Option Refusal → Result Unit Refusal
+verdict None = Ok tt
+verdict (Some e) = Err e
 
 -- every sound is below c
 abbrev pub all_below_lem : ℕ → List ℕ → Bool

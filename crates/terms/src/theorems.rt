@@ -7,56 +7,38 @@ ghost use Rattle.terms.specs.Marks.{RowFindsClosest};
 ghost use Rattle.terms.specs.Near.{AlwaysNear};
 ghost use Rattle.terms.specs.Reading.{EveryReader};
 
-pub fn examples_hold() -> u8
+pub fn examples_hold()
     ensures { ExamplesHold }
-{
-    0
-}
+{}
 
-pub fn gap_is_over_all_figures() -> u8
+pub fn gap_is_over_all_figures()
     ensures { OverAllFigures }
-{
-    0
-}
+{}
 
-pub fn row_finds_closest() -> u8
+pub fn row_finds_closest()
     ensures { RowFindsClosest }
-{
-    0
-}
+{}
 
-pub fn every_step_follows_the_rule() -> u8
+pub fn every_step_follows_the_rule()
     ensures { EveryStep }
-{
-    0
-}
+{}
 
-pub fn one_closest() -> u8
+pub fn one_closest()
     ensures { AlwaysOneClosest }
-{
-    0
-}
+{}
 
-pub fn best_by_steps() -> u8
+pub fn best_by_steps()
     ensures { BestBySteps }
-{
-    0
-}
+{}
 
-pub fn every_reader() -> u8
+pub fn every_reader()
     ensures { EveryReader }
-{
-    0
-}
+{}
 
-pub fn neighbours_are_near() -> u8
+pub fn neighbours_are_near()
     ensures { AlwaysNear }
-{
-    0
-}
+{}
 
-pub fn one_best() -> u8
+pub fn one_best()
     ensures { AlwaysOneBest }
-{
-    0
-}
+{}

@@ -1,14 +1,11 @@
-use Rattle.std.proofs.Common.{sym, ◌∙◌}
-use Rattle.terms.specs.Figures.{gap}
-use Rattle.direct.proofs.Summing.{over_none, over_alone}
+use Rattle.std.proofs.Common.{arith}
+use Rattle.direct.proofs.Older.{gap_none, gap_end, one_older}
 use Rattle.direct.proofs.gaps.gap_of.Goals as goal
 
-pub summed-after-requires : goal.summed-after-requires
-summed-after-requires c = sym (over_none c.args.q c.args.x.now c.args.y.now)
+pub loop-i-init : goal.loop-i-init
+loop-i-init c =
+    omega (arith, gap_none c.args.q c.args.x.now, gap_end c.args.q c.args.x.now c.args.y.now)
 
-pub summed-requires : goal.summed-requires
-summed-requires c = c.summed-after.ensures ∙ over_alone c.args.q c.args.y.now c.args.x.now c.args.y.now
-
-pub returns : goal.returns
-unfolding gap
-returns c = c.summed.ensures
+pub older-gap-requires : goal.older-gap-requires
+older-gap-requires c =
+    one_older c.args.q c.args.x.now c.args.y.now c.loop-i.i c.loop-i.gap c.loop-i-test.true (omega arith) c.loop-i.invariant

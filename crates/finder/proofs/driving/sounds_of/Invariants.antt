@@ -1,6 +1,5 @@
-use Rattle.std.proofs.Common.{◌≡◌, map, length, take}
-use Rattle.terms.specs.Limits.{longest_phrase}
+use Rattle.std.proofs.Common.{◌≡◌, map, take}
 use Rattle.finder.proofs.driving.sounds_of.Given as goal
 
-abbrev pub invariant-loop-i : goal.invariant-loop-i
-invariant-loop-i g l = (take l.i l.sounds ≡ map g.S.Step.sound (take l.i l.phrase)) × (length l.sounds ≡ longest_phrase)
+abbrev pub invariant-loop-x : goal.invariant-loop-x
+invariant-loop-x g l = l.sounds.items ≡ map g.S.Step.sound (take l.x-index l.phrase)

@@ -18,7 +18,7 @@ returns g c =
     let sound = g.S.Step.sound in
     let memory = g.R.Reader.memory in
     let marks = g.M.Row.marks in
-    let n = g.S.Step.sounds in
+    let n = g.S.Step.SOUNDS in
     let reach = g.R.Reader.reaches n in
     record {
       law = λ ks es rs b s ch. life_law sound reach n (chain_life sound memory marks reach n ch).1;

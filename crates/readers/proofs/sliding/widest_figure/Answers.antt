@@ -1,36 +1,27 @@
-use Rattle.std.proofs.Common.{◌*◌, ◌^◌, sym, ap, ◌∙◌, inl, inr, mul-le-mul_right, pow-suc, add-one, arith}
-use native.Mathlib.Nat.{pow-zero}
+use Rattle.std.proofs.Common.{◌≡◌, ◌≢◌, ℕ, zero, suc, ◌≤◌, ◌<◌, ◌+◌, ◌^◌, Option, MatchOption, Some, None, refl, ◌∙◌, subst, inl, inr, add-one, rules, arith}
+use Rattle.std.specs.Option.{unwrap_or}
+use Rattle.std.proofs.Math.Nat.{pow-zero}
+use Rattle.std.proofs.lemmas.Iterator.{first_from_Range}
+use Rattle.terms.specs.Limits.{longest_figure, most_numbers}
+use Rattle.readers.specs.Window.{sliding_reach_lem}
 use Rattle.readers.specs.Widest.{reach_is}
-use Rattle.terms.specs.Limits.{most_numbers}
 use Rattle.readers.proofs.sliding.widest_figure.Goals as goal
 
-pub loop-width-init : goal.loop-width-init
-loop-width-init c = (sym (pow-zero c.args.c), omega arith, omega arith)
+fits : (c w : ℕ) → ((k : ℕ) → 0 ≤ k → k < w → c ^ (k + 1) ≤ most_numbers) → c ^ w ≤ most_numbers
+fits c zero f = let e = pow-zero c in omega arith
+fits c (suc k) f = subst (λ v. c ^ v ≤ most_numbers) (add-one k) (f k (omega arith) (omega arith))
 
-pub overflow_mul-power : goal.overflow_mul-power
-overflow_mul-power c =
-    let m = mul-le-mul_right {m = c.loop-width.power} {n = most_numbers} c.args.c c.loop-width.invariant.1 in
-    let f = c.ranges.c in
-    omega arith
-
-pub returns-then-power-gt-MOST_NUMBERS : goal.returns-then-power-gt-MOST_NUMBERS
-returns-then-power-gt-MOST_NUMBERS c =
-    let b = c.args.c in
-    let w = c.loop-width.width in
-    let i = c.loop-width.invariant.0 in
-    let j = c.loop-width.invariant.1 in
-    let e = ap (λ v. v * b) i ∙ sym (pow-suc b w) ∙ ap (λ v. b ^ v) (sym (add-one w)) in
-    reach_is b w c.if-c-eq0.false c.loop-width.invariant.2 (omega arith) (inr (let t = c.if-power-gt-MOST_NUMBERS.true in omega arith))
-
-pub loop-width-preserved : goal.loop-width-preserved
-loop-width-preserved c =
-    let b = c.args.c in
-    let w = c.loop-width.width in
-    (ap (λ v. v * b) c.loop-width.invariant.0 ∙ sym (pow-suc b w) ∙ ap (λ v. b ^ v) (sym (add-one w)), c.if-power-gt-MOST_NUMBERS.false, omega arith)
+-- the first width whose next one does not fit, or the longest
+reach_found : (c : ℕ) (r : Option ℕ) → c ≢ 0
+    → MatchOption r ((k : ℕ) → 0 ≤ k → k < longest_figure → c ^ (k + 1) ≤ most_numbers)
+    (λ w. (0 ≤ w) × (w < longest_figure) × (most_numbers < c ^ (w + 1)) × ((k : ℕ) → 0 ≤ k → k < w → c ^ (k + 1) ≤ most_numbers))
+    → unwrap_or r longest_figure ≡ sliding_reach_lem c
+reach_found c None z f = reach_is c longest_figure z (omega arith) (fits c longest_figure f) (inl refl)
+reach_found c (Some w) z f = let l = f.1 in reach_is c w z (omega arith) (fits c w f.3) (inr f.2)
 
 pub returns : goal.returns
 returns c =
-    let i = c.loop-width.invariant.0 in
-    let j = c.loop-width.invariant.1 in
-    let k = c.loop-width.invariant.2 in
-    reach_is c.args.c c.loop-width.width c.if-c-eq0.false k (omega arith) (inl (omega arith))
+    let Yes : ℕ → Type 0 = λ k. most_numbers < c.args.c ^ (k + 1) in
+    let No : ℕ → Type 0 = λ k. c.args.c ^ (k + 1) ≤ most_numbers in
+    c.unwrap_or.ensures
+    ∙ reach_found c.args.c c.find.result c.if-c-eq0.false (first_from_Range _ _ _ c.find.result Yes No c.find.ensures.ran (λ x q h. search rules) (λ x q h. search rules))

@@ -1,6 +1,5 @@
-use Rattle.std.proofs.Common.{refl}
 use Rattle.sheets.proofs.Longest.{longest_sheets}
 use Rattle.sheets.proofs.read.reading_limit.Goals as goal
 
-pub returns : goal.returns
-returns c = record { limit = refl; longest = longest_sheets }
+pub returns-clause-longest : goal.returns-clause-longest
+returns-clause-longest c = longest_sheets

@@ -1,8 +1,8 @@
-use Rattle.std.proofs.Common.{◌≡◌, take, vec_items}
+use Rattle.std.proofs.Common.{◌≡◌, map, take, vec_items}
 use Rattle.std.specs.List.{flat_map}
+use Rattle.listing.specs.declared.line.Line.TheVariants.{Step}
 use Rattle.listing.specs.Lines.{line_bytes}
-use Rattle.listing.specs.Listed.{lines_of}
 use Rattle.listing.proofs.made.Listing.to_bytes.Given as goal
 
-abbrev pub invariant-loop-k : goal.invariant-loop-k
-invariant-loop-k l = vec_items l.out ≡ flat_map line_bytes (take l.k (lines_of l.self))
+abbrev pub invariant-loop-answer : goal.invariant-loop-answer
+invariant-loop-answer l = vec_items l.out ≡ flat_map line_bytes (map Step (take l.answer-index l.self.answers.items))

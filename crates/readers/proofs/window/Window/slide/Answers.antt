@@ -1,71 +1,34 @@
-use Rattle.std.proofs.Common.{◌≡◌, ◌<◌, ◌≤◌, sym, refl, ap, ◌∙◌, arith}
-use Rattle.readers.proofs.Digits.{power_some, fits, below_more, slid_none, slid_more, slid_full, digits_none}
-use Rattle.readers.specs.Window.{digits}
+use Rattle.std.proofs.Common.{arith}
+use Rattle.readers.proofs.Digits.{power_some, fits}
+use Rattle.readers.proofs.Windows.{below_on, slid_on, filled_by}
 use Rattle.readers.proofs.window.Window.slide.Goals as goal
 
-pub returns-then-digit-self : goal.returns-then-digit-self
-returns-then-digit-self c =
-    let s = c.args.self.now in
-    let w = c.clear.new.self in
-    let e = ap (λ v. digits w.base v w.number) c.clear.ensures.empty ∙ digits_none w.base w.number in
-    record {
-      base = c.clear.ensures.base;
-      width = c.clear.ensures.width;
-      digits = e ∙ sym (slid_none s.base s.width (digits s.base s.heard s.number) c.args.sound (omega arith));
-    }
-
 pub nonzero_rem-self : goal.nonzero_rem-self
-nonzero_rem-self c = let s = c.args.self.now in power_some s.base s.width s.power s.based s.powered
+nonzero_rem-self c = let s = c.args.self.now.scale in power_some s.base s.width s.power s.based s.powered
 
 pub overflow_mul-self : goal.overflow_mul-self
 overflow_mul-self c =
-    let s = c.args.self.now in
-    let f = fits s.base s.width s.power s.number c.args.sound s.based s.wide s.powered c.if-digit-self.false in
+    let s = c.args.self.now.scale in
+    let f = fits s.base s.width s.power c.args.self.now.number c.args.sound s.based s.wide s.powered c.if-digit-self.false in
     let l = s.small in
     omega arith
 
 pub overflow_add-self : goal.overflow_add-self
 overflow_add-self c =
-    let s = c.args.self.now in
-    let f = fits s.base s.width s.power s.number c.args.sound s.based s.wide s.powered c.if-digit-self.false in
+    let s = c.args.self.now.scale in
+    let f = fits s.base s.width s.power c.args.self.now.number c.args.sound s.based s.wide s.powered c.if-digit-self.false in
     let l = s.small in
     omega arith
 
 pub invariant_of-self : goal.invariant_of-self
 invariant_of-self c =
-    let s = c.args.self.now in
-    let t : s.heard < s.width = omega arith in
-    record {
-      based = s.based;
-      wide = s.wide;
-      powered = s.powered;
-      small = s.small;
-      full = omega arith;
-      below = below_more s.base s.width s.power s.number s.heard c.args.sound s.based t s.powered s.below c.if-digit-self.false;
-    }
+    let w = c.args.self.now in
+    record { full = omega arith; below = below_on w c.args.sound _ c.if-digit-self.false c.min-self.ensures }
 
-pub invariant_of-self-else-self : goal.invariant_of-self-else-self
-invariant_of-self-else-self c =
-    let s = c.args.self.now in
-    let e : s.heard ≡ s.width = omega (arith, s.full) in
-    let f = fits s.base s.width s.power s.number c.args.sound s.based s.wide s.powered c.if-digit-self.false in
-    record {
-      based = s.based;
-      wide = s.wide;
-      powered = s.powered;
-      small = s.small;
-      full = s.full;
-      below = rw e f;
-    }
+pub returns-clause-slid : goal.returns-clause-slid
+returns-clause-slid c = slid_on c.args.self.now c.args.sound _ c.if-digit-self.false c.min-self.ensures
 
-pub returns-then-self : goal.returns-then-self
-returns-then-self c =
-    let s = c.args.self.now in
-    let t : s.heard < s.width = omega arith in
-    record { base = refl; width = refl; digits = slid_more s.base s.width s.power s.number s.heard c.args.sound s.based t s.powered s.below c.if-digit-self.false }
-
-pub returns-else-self : goal.returns-else-self
-returns-else-self c =
-    let s = c.args.self.now in
-    let t : s.width ≤ s.heard = omega arith in
-    record { base = refl; width = refl; digits = slid_full s.base s.width s.power s.number s.heard c.args.sound s.based s.wide s.full t s.powered c.if-digit-self.false }
+pub returns-clause-filled : goal.returns-clause-filled
+returns-clause-filled c =
+    let w = c.args.self.now in
+    filled_by w.scale.base w.scale.width _ _ _ (omega arith) (below_on w c.args.sound _ c.if-digit-self.false c.min-self.ensures) c.then_some.ensures

@@ -1,41 +1,43 @@
-use Rattle.std.proofs.Common.{◌≡◌, ℕ, ◌+◌, ◌-◌, List, length, set, Some, None, sym, refl, ap, ◌∙◌, subst, arith, rules}
+use Rattle.std.proofs.Common.{◌≡◌, length, None, sym, ap, ◌∙◌, subst, arith, lit<}
 use Rattle.terms.specs.Refusals.{lift_refusal}
-use Rattle.rows.specs.declared.mark.Mark.{Mark}
 use Rattle.rows.specs.declared.mark.Mark.TheVariants.{Plus}
-use Rattle.rows.specs.Laws.{ring, Wrapped}
-use Rattle.rows.specs.TreeRows.{held}
-use Rattle.rows.proofs.Allowed.{lift_allowed}
-use Rattle.rows.proofs.KeptProps.{taken_out}
-use Rattle.rows.proofs.RingMoves.{length_ring, ring_written}
+use Rattle.rows.specs.Rows.{lifted}
+use Rattle.rows.proofs.Allowed.{lift_passed, lift_allowed}
+use Rattle.rows.proofs.RingMoves.{wrap_inside}
+use Rattle.rows.proofs.MarkRows.{written_asks, written_kept, written_shows, row_lifted, length_row}
 use Rattle.rows.proofs.tree_row.TreeRowRow.lift.Goals as goal
 
-pub returns-in-Some : goal.returns-in-Some
-returns-in-Some c =
-    let r = c.args.self.now in
-    let k = taken_out r.len r.tree.nodes r.kept in
-    let l : length (ring r.head (held r.tree.nodes)) ≡ r.len = length_ring r.head (held r.tree.nodes) ∙ k.count in
-    record {
-      exact = (subst (λ n. lift_refusal n c.args.age ≡ Some c.in-Some.refusal) (sym l) (sym c.lift_refused.ensures ∙ c.in-Some.is), refl);
-    }
+pub put-requires : goal.put-requires
+put-requires c =
+    let r = c.self.inside in
+    let h = lift_allowed r.len c.args.age (sym c.lift_refused.ensures ∙ c.in_ok-lift_refused.was) in
+    let i = c.self.invariant.inside in
+    let b = wrap_inside _ r.len c.wrap-at.result c.wrap-at.ensures (omega arith) in
+    let a = written_asks r.len r.head r.tree c.self.invariant c.wrap-at.result Plus b c.into.result c.into.ensures in
+    (lit< tt, (omega arith, (a.0, a.1)))
+
+pub invariant_of-self : goal.invariant_of-self
+invariant_of-self c =
+    let r = c.self.inside in
+    let h = lift_allowed r.len c.args.age (sym c.lift_refused.ensures ∙ c.in_ok-lift_refused.was) in
+    let i = c.self.invariant.inside in
+    let b = wrap_inside _ r.len c.wrap-at.result c.wrap-at.ensures (omega arith) in
+    written_kept r.len r.head r.tree c.self.invariant c.wrap-at.result Plus b c.into.result c.into.ensures c.put.new.self c.put.ensures
+    r.head c.self.invariant.inside
 
 pub returns : goal.returns
 returns c =
-    let r = c.args.self.now in
-    let ms : List Mark = held r.tree.nodes in
-    let k = taken_out r.len r.tree.nodes r.kept in
-    let n : length ms ≡ r.len = k.count in
-    let l : length (ring r.head ms) ≡ r.len = length_ring r.head ms ∙ n in
-    let e : lift_refusal r.len c.args.age ≡ None = sym c.lift_refused.ensures ∙ c.in_default.is in
-    let h = lift_allowed r.len c.args.age e in
-    let b : ℕ = r.len - 1 - c.args.age in
-    let w : Wrapped (r.head + b) (length ms) c.place-at.result = search rules in
-    let s : held c.write.new.self.tree.nodes ≡ set ms c.place-at.result Plus = search rules in
+    let r = c.self.inside in
+    let p = sym c.lift_refused.ensures ∙ c.in_ok-lift_refused.was in
+    let h = lift_allowed r.len c.args.age p in
+    let i = c.self.invariant.inside in
+    let b = wrap_inside _ r.len c.wrap-at.result c.wrap-at.ensures (omega arith) in
+    let l : length c.args.self.now ≡ r.len = ap length (sym c.self.view_is) ∙ length_row r.len r.head r.tree c.put.new.self c.self.invariant in
     record {
       exact = (
-        subst (λ x. lift_refusal x c.args.age ≡ None) (sym l) e,
-        ap (λ x. ring x (held c.write.new.self.tree.nodes)) c.write.ensures.head
-            ∙ ap (ring r.head) s
-            ∙ ring_written ms r.head Plus b c.place-at.result (omega arith) (omega arith) w
-            ∙ ap (λ x. set (ring r.head ms) (x - 1 - c.args.age) Plus) (sym l),
+        subst (λ n. lift_refusal n c.args.age ≡ None) (sym l) (lift_passed r.len c.args.age p),
+        row_lifted r.len r.head r.tree c.put.new.self c.self.invariant c.wrap-at.result c.args.age h c.wrap-at.ensures
+            (written_shows r.len r.head r.tree c.self.invariant c.wrap-at.result Plus b c.into.result c.into.ensures c.put.new.self c.put.ensures)
+            ∙ ap (lifted c.args.age) c.self.view_is,
       );
     }

@@ -1,25 +1,26 @@
-use Rattle.std.proofs.Common.{◌≡◌, ◌+◌, List, length, set, ap, ◌∙◌, arith, rules}
-use Rattle.rows.specs.declared.mark.Mark.{Mark}
-use Rattle.rows.specs.Laws.{ring, Wrapped}
-use Rattle.rows.specs.TreeRows.{held}
-use Rattle.rows.proofs.KeptProps.{taken_out}
-use Rattle.rows.proofs.MarkRows.{push_none, ring_pushed}
-use Rattle.rows.proofs.RingMoves.{length_ring}
+use Rattle.std.proofs.Common.{ap, ◌+◌, ◌∙◌, arith, lit<}
+use Rattle.rows.specs.Rows.{pushed}
+use Rattle.rows.proofs.RingMoves.{wrap_inside}
+use Rattle.rows.proofs.MarkRows.{written_asks, written_kept, written_shows, row_pushed}
 use Rattle.rows.proofs.tree_row.TreeRowRow.push.Goals as goal
 
-pub returns-then-self-eq0 : goal.returns-then-self-eq0
-returns-then-self-eq0 c =
-    let r = c.args.self.now in
-    let k = taken_out r.len r.tree.nodes r.kept in
-    push_none c.args.m (ring r.head (held r.tree.nodes)) (length_ring r.head (held r.tree.nodes) ∙ k.count ∙ c.if-self-eq0.true)
+pub put-requires : goal.put-requires
+put-requires c =
+    let r = c.self.inside in
+    let a = written_asks r.len r.head r.tree c.self.invariant r.head c.args.m (omega arith) c.into.result c.into.ensures in
+    (lit< tt, (omega arith, (a.0, a.1)))
+
+pub invariant_of-self : goal.invariant_of-self
+invariant_of-self c =
+    let r = c.self.inside in
+    let i = c.self.invariant.inside in
+    let b = wrap_inside (r.head + 1) r.len c.wrap-self-inside.result c.wrap-self-inside.ensures (omega arith) in
+    written_kept r.len r.head r.tree c.self.invariant r.head c.args.m (omega arith) c.into.result c.into.ensures c.put.new.self c.put.ensures
+    c.wrap-self-inside.result (omega (arith, b))
 
 pub returns : goal.returns
 returns c =
-    let r = c.args.self.now in
-    let ms : List Mark = held r.tree.nodes in
-    let k = taken_out r.len r.tree.nodes r.kept in
-    let n = k.count in
-    let e = c.write.ensures in
-    let s : held c.write.new.self.tree.nodes ≡ set ms r.head c.args.m = search rules in
-    let w : Wrapped (r.head + 1) (length ms) c.wrap-self.result = search rules in
-    ap (ring c.wrap-self.result) s ∙ ring_pushed ms r.head c.wrap-self.result c.args.m (omega arith) w
+    let r = c.self.inside in
+    row_pushed r.len r.head r.tree c.put.new.self c.self.invariant c.wrap-self-inside.result c.args.m (omega arith) c.wrap-self-inside.ensures
+    (written_shows r.len r.head r.tree c.self.invariant r.head c.args.m (omega arith) c.into.result c.into.ensures c.put.new.self c.put.ensures)
+    ∙ ap (pushed c.args.m) c.self.view_is

@@ -1,0 +1,37 @@
+// A phrase and the length of its figures.
+ghost use Rattle.std.specs.Prelude.{◌≡◌, ◌≤◌, length, IfOk};
+ghost use Rattle.std.specs.Result.{result_err};
+ghost use Rattle.terms.specs.Limits.{longest_phrase};
+ghost use Rattle.terms.specs.Refusals.{first_of, phrase_lines};
+
+use terms::limits::{LONGEST_FIGURE, LONGEST_PHRASE};
+use terms::refusal::Refusal;
+
+// A phrase that no line turns away.
+#[derive(Clone, Copy)]
+pub(crate) struct Phrase<'a> {
+    pub sounds: &'a [u32],
+    pub q: usize,
+    ghost from_one: { 1 ≤ q },
+    ghost to_phrase: { q ≤ length sounds.now },
+    ghost short: { length sounds.now ≤ longest_phrase },
+}
+
+impl<'a> Phrase<'a> {
+    // The lines of the phrase and its figure length, in their order.
+    pub fn new(sounds: &'a [u32], q: usize) -> Result<Self, Refusal>
+        ensures refused { result_err result ≡ first_of (phrase_lines (length sounds.now) q) }
+        ensures held { IfOk result (λ p. (p.sounds.now ≡ sounds.now) × (p.q ≡ q)) }
+    {
+        if sounds.is_empty() {
+            return Err(Refusal::EmptyPhrase);
+        }
+        if sounds.len() > LONGEST_PHRASE {
+            return Err(Refusal::LongPhrase);
+        }
+        if q == 0 || q > sounds.len() || q > LONGEST_FIGURE {
+            return Err(Refusal::FigureLength);
+        }
+        Ok(Phrase { sounds, q })
+    }
+}

@@ -1,2 +1,0 @@
-pub mod Short
-pub mod Lanes
