@@ -1,25 +1,21 @@
 -- The walk back: its start, a step of it, and that it finds the closest stretch where it goes far enough.
-use Rattle.std.proofs.Common.{◌≡◌, ℕ, ◌+◌, ◌-◌, ◌*◌, ◌<◌, ◌≤◌, Bool, true, false, cond, leb, List, [], length, take, drop, nat_cmp, sym, refl, ap, ◌∙◌, subst, inl, inr, arith}
+use Rattle.std.proofs.Common.{◌≡◌, ℕ, ◌+◌, ◌-◌, ◌*◌, ◌<◌, ◌≤◌, Bool, true, false, cond, leb, List, [], length, take, drop, sym, refl, ap, ◌∙◌, subst, inl, inr, arith}
 use lib.Seq.{take-length}
 use Rattle.std.proofs.lemmas.List.{length-drop, take_rest}
 use Rattle.std.proofs.lemmas.Bool.{cases_lt, leb-true, leb-false}
 use Rattle.std.proofs.lemmas.Bool.Decides.{nat_tests}
-use Rattle.std.specs.Ordering.{ord_min, ordering_then}
 use Rattle.terms.specs.Figures.{gap}
 use Rattle.terms.specs.Closest.{Closest}
 use Rattle.terms.proofs.Counts.{gap_far}
 use Rattle.terms.proofs.Runs.{length_figures}
 use Rattle.direct.specs.declared.back.Nearest.{Nearest}
-use Rattle.direct.specs.Walks.{NearestFrom}
+use Rattle.direct.specs.Walks.{NearestFrom, nearer}
 use Rattle.direct.proofs.Older.{gap_end, gap_none}
 
--- the lesser of the nearest so far and an earlier start: the earlier one unless its gap is larger
-abbrev pub lesser : Nearest → Nearest → Nearest
-lesser = ord_min (λ (a b : Nearest). ordering_then (nat_cmp a.gap b.gap) (nat_cmp a.from b.from))
-
-lesser_is : (r : Nearest) (d i : ℕ) → i < r.from
-    → lesser r (record { gap = d; from = i }) ≡ cond (leb d r.gap) (record { gap = d; from = i }) r
-lesser_is r d i h = grind (arith, nat_tests)
+-- the nearer of the nearest so far and an earlier start: the earlier one unless its gap is larger
+nearer_is : (r : Nearest) (d i : ℕ) → i < r.from
+    → nearer r (record { gap = d; from = i }) ≡ cond (leb d r.gap) (record { gap = d; from = i }) r
+nearer_is r d i h = grind (arith, nat_tests)
 
 module _ (q : ℕ) (phrase t : List ℕ) where
   pub walk_start : (d : ℕ) → d ≡ gap q phrase [] → NearestFrom q phrase t (length t) (record { gap = d; from = length t })
@@ -35,9 +31,9 @@ module _ (q : ℕ) (phrase t : List ℕ) where
 
   pub walk_more : (i : ℕ) (r : Nearest) (d : ℕ) → 0 < i → NearestFrom q phrase t i r
       → d ≡ gap q phrase (take (length t - (i - 1)) (drop (i - 1) t))
-      → NearestFrom q phrase t (i - 1) (lesser r (record { gap = d; from = i - 1 }))
+      → NearestFrom q phrase t (i - 1) (nearer r (record { gap = d; from = i - 1 }))
   walk_more i r d h n k =
-      subst (NearestFrom q phrase t (i - 1)) (sym (lesser_is r d (i - 1) (omega (arith, n.after_low)))) (go (leb d r.gap) refl)
+      subst (NearestFrom q phrase t (i - 1)) (sym (nearer_is r d (i - 1) (omega (arith, n.after_low)))) (go (leb d r.gap) refl)
     where
       e : d ≡ gap q phrase (drop (i - 1) t)
       e = k ∙ ap (gap q phrase) (take_rest t (i - 1))

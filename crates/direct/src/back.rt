@@ -1,6 +1,6 @@
 // The walk back over the starts of a take: each step adds one older figure to the stretch.
-ghost use Rattle.std.specs.Prelude.{◌≤◌, length};
-ghost use Rattle.direct.specs.Walks.{NearestFrom};
+ghost use Rattle.std.specs.Prelude.{◌≡◌, ◌≤◌, length};
+ghost use Rattle.direct.specs.Walks.{NearestFrom, nearer};
 
 use crate::gaps::{gap_of, older};
 use crate::phrase::Phrase;
@@ -10,6 +10,15 @@ use crate::phrase::Phrase;
 pub(crate) struct Nearest {
     pub gap: usize,
     pub from: usize,
+}
+
+impl Nearest {
+    // The lesser of this one and an earlier start.
+    fn or_earlier(self, earlier: Nearest) -> Nearest
+        ensures { result ≡ nearer self earlier }
+    {
+        self.min(earlier)
+    }
 }
 
 impl Phrase<'_> {
@@ -23,9 +32,10 @@ impl Phrase<'_> {
             gap,
             from: take.len(),
         };
+        // By number, as in `gaps`.
         for from in (low..take.len()).rev() {
             gap = older(self.sounds, &take[from..], self.q, gap);
-            nearest = nearest.min(Nearest { gap, from });
+            nearest = nearest.or_earlier(Nearest { gap, from });
         }
         nearest
     }

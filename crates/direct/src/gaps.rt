@@ -25,6 +25,7 @@ pub fn gap_of(x: &[u32], y: &[u32], q: usize) -> usize
     ensures { result ≡ gap_between q x.now y.now }
 {
     let mut gap = x.len().saturating_sub(q.saturating_sub(1));
+    // By number: a row grows at its front, and no iterator gives the ends of a slice. So it goes in `back` too.
     for i in (0..y.len()).rev() {
         gap = older(x, &y[i..], q, gap);
     }

@@ -4,7 +4,7 @@ ghost use Rattle.std.specs.Result.{result_err};
 ghost use Rattle.terms.specs.Limits.{longest_phrase};
 ghost use Rattle.terms.specs.Refusals.{first_of, phrase_lines};
 
-use terms::limits::{LONGEST_FIGURE, LONGEST_PHRASE};
+use terms::checks::check_phrase;
 use terms::refusal::Refusal;
 
 // A phrase that no line turns away.
@@ -23,15 +23,7 @@ impl<'a> Phrase<'a> {
         ensures refused { result_err result ≡ first_of (phrase_lines (length sounds.now) q) }
         ensures held { IfOk result (λ p. (p.sounds.now ≡ sounds.now) × (p.q ≡ q)) }
     {
-        if sounds.is_empty() {
-            return Err(Refusal::EmptyPhrase);
-        }
-        if sounds.len() > LONGEST_PHRASE {
-            return Err(Refusal::LongPhrase);
-        }
-        if q == 0 || q > sounds.len() || q > LONGEST_FIGURE {
-            return Err(Refusal::FigureLength);
-        }
+        check_phrase(sounds.len(), q)?;
         Ok(Phrase { sounds, q })
     }
 }

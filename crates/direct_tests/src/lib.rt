@@ -14,11 +14,6 @@ mod tests {
 
     const PAST_PHRASE: usize = LONGEST_PHRASE + 1;
 
-    // The number of a call's refusal, 0 for an accepted call.
-    fn number<T: Drop>(outcome: Result<T, Refusal>) -> u8 {
-        outcome.err().map_or(0, Refusal::number)
-    }
-
     // The gap and the start of the closest stretch at the end of a take.
     fn ends_at(
         rt: &impl Abort,
@@ -98,17 +93,52 @@ mod tests {
         let long = [1; PAST_PHRASE];
         let longest = &long[..LONGEST_PHRASE];
         let mut one = [Answer::default(); 1];
-        assert_eq!(rt; number(closest(&[], 0, &[1])), 11);
-        assert_eq!(rt; number(closest(&long, 0, &[1])), 12);
-        assert_eq!(rt; number(closest(&[1, 2], 0, &[1])), 13);
-        assert_eq!(rt; number(closest(&[1, 2], 3, &[1])), 13);
-        assert_eq!(rt; number(closest(longest, LONGEST_FIGURE + 1, &[1])), 13);
-        assert_eq!(rt; number(closest(longest, LONGEST_FIGURE, &[1])), 0);
-        assert_eq!(rt; number(play(&[], 0, &[], &mut one)), 11);
-        assert_eq!(rt; number(play(&long, 0, &[], &mut one)), 12);
-        assert_eq!(rt; number(play(&[1, 2], 3, &[], &mut one)), 13);
-        assert_eq!(rt; number(play(&[1, 2], 2, &[], &mut one)), 21);
+        assert_eq!(rt; closest(&[], 0, &[1]).err(), Some(Refusal::EmptyPhrase));
+        assert_eq!(rt; closest(&long, 0, &[1]).err(), Some(Refusal::LongPhrase));
+        assert_eq!(rt;
+            closest(&[1, 2], 0, &[1]).err(),
+            Some(Refusal::FigureLength)
+        );
+        assert_eq!(rt;
+            closest(&[1, 2], 3, &[1]).err(),
+            Some(Refusal::FigureLength)
+        );
+        assert_eq!(rt;
+            closest(longest, LONGEST_FIGURE + 1, &[1]).err(),
+            Some(Refusal::FigureLength)
+        );
+        assert_eq!(rt; closest(longest, LONGEST_FIGURE, &[1]).err(), None);
+        assert_eq!(rt;
+            play(&[], 0, &[], &mut one).err(),
+            Some(Refusal::EmptyPhrase)
+        );
+        assert_eq!(rt;
+            play(&long, 0, &[], &mut one).err(),
+            Some(Refusal::LongPhrase)
+        );
+        assert_eq!(rt;
+            play(&[1, 2], 3, &[], &mut one).err(),
+            Some(Refusal::FigureLength)
+        );
+        assert_eq!(rt;
+            play(&[1, 2], 2, &[], &mut one).err(),
+            Some(Refusal::UnevenLists)
+        );
         assert!(rt; one == [Answer::default(); 1]);
+    }
+
+    #[test]
+    fn refusals_have_numbers(rt: HostRuntime) {
+        let numbered = [
+            (Refusal::EmptyPhrase, 11),
+            (Refusal::LongPhrase, 12),
+            (Refusal::FigureLength, 13),
+            (Refusal::UnevenLists, 21),
+            (Refusal::FullTake, 23),
+        ];
+        for (refusal, number) in numbered {
+            assert_eq!(rt; refusal.number(), number);
+        }
     }
 
     #[test]
@@ -116,9 +146,15 @@ mod tests {
         let steps = LONGEST_TAKE as usize + 1;
         let take = vec![in rt.alloc(); 7u32; steps]?;
         let mut records = vec![in rt.alloc(); Answer::default(); steps]?;
-        assert_eq!(rt; number(closest(&[1, 2], 1, &take)), 23);
-        assert_eq!(rt; number(play(&[1, 2], 1, &take, &mut records)), 23);
-        assert_eq!(rt; number(play(&[1, 2], 1, &take, &mut [])), 21);
+        assert_eq!(rt; closest(&[1, 2], 1, &take).err(), Some(Refusal::FullTake));
+        assert_eq!(rt;
+            play(&[1, 2], 1, &take, &mut records).err(),
+            Some(Refusal::FullTake)
+        );
+        assert_eq!(rt;
+            play(&[1, 2], 1, &take, &mut []).err(),
+            Some(Refusal::UnevenLists)
+        );
         assert_eq!(rt; play(&[1, 2], 1, &[], &mut [])?, None);
         Ok(())
     }

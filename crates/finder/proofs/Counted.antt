@@ -1,41 +1,13 @@
 -- The counts of a phrase's codes.
-use Rattle.std.proofs.Common.{◌≡◌, ℕ, zero, suc, ◌+◌, ◌<◌, ◌≤◌, Bool, true, false, cond, List, [], ◌∷◌, length, refl, ap, arith}
-use Rattle.terms.specs.Figures.{count, figures, same, different, without}
+use Rattle.std.proofs.Common.{◌≡◌, ℕ, zero, suc, ◌+◌, ◌<◌, ◌≤◌, cond, List, [], ◌∷◌, length, refl, ap, arith}
+use Rattle.terms.specs.Figures.{count, figures, same, different}
 use Rattle.terms.specs.Codes.{count_of, count_at}
 use Rattle.terms.proofs.Runs.{length_figures}
 use Rattle.terms.proofs.Counts.{same_sym, different_once}
+use Rattle.readers.proofs.Coding.{different_small, count_of_small}
 use Rattle.terms.specs.Limits.{longest_phrase}
 use Rattle.finder.specs.Recent.{before}
 use Rattle.finder.proofs.Rings.{Counts}
-
-cond_one : (b : Bool) → cond b 1 0 ≤ 1
-cond_one true = omega arith
-cond_one false = omega arith
-
-count_few : (v : List ℕ) (fs : List (List ℕ)) → count v fs ≤ length fs
-unfolding count
-count_few v [] = omega arith
-count_few v (f ∷ fs) = let a = count_few v fs in let b = cond_one (same v f) in omega arith
-
-without_few : (v : List ℕ) (fs : List (List ℕ)) → length (without v fs) ≤ length fs
-unfolding without
-without_few v [] = omega arith
-without_few v (f ∷ fs) = go (same v f) (without_few v fs)
-  where
-    go : (b : Bool) → length (without v fs) ≤ length fs → length (cond b (without v fs) (f ∷ without v fs)) ≤ length (f ∷ fs)
-    go true h = omega arith
-    go false h = omega arith
-
-different_few : (fs : List (List ℕ)) → length (different fs) ≤ length fs
-unfolding different
-different_few [] = omega arith
-different_few (f ∷ fs) = let a = different_few fs in let b = without_few f (different fs) in omega arith
-
-at_few : (k : ℕ) (ps fs : List (List ℕ)) → count_at k ps fs ≤ length ps
-unfolding count_at
-at_few k ps [] = omega arith
-at_few zero ps (f ∷ fs) = count_few f ps
-at_few (suc k) ps (f ∷ fs) = at_few k ps fs
 
 at_in : (k : ℕ) (ps fs : List (List ℕ)) → 0 < count_at k ps fs → k < length fs
 unfolding count_at
@@ -43,22 +15,17 @@ at_in k ps [] h = absurd (omega arith)
 at_in zero ps (f ∷ fs) h = omega arith
 at_in (suc k) ps (f ∷ fs) h = let a = at_in k ps fs h in omega arith
 
-of_few : (ps : List (List ℕ)) (h : ℕ) → count_of ps h ≤ length ps
-unfolding count_of
-of_few ps zero = omega arith
-of_few ps (suc k) = at_few k ps (different ps)
-
 of_in : (ps : List (List ℕ)) (h : ℕ) → 0 < count_of ps h → (0 < h) × (h ≤ length ps)
 unfolding count_of
 of_in ps zero k = absurd (omega arith)
-of_in ps (suc h) k = let a = at_in h ps (different ps) k in let b = different_few ps in (omega arith, omega arith)
+of_in ps (suc h) k = let a = at_in h ps (different ps) k in let b = different_small ps in (omega arith, omega arith)
 
 pub counts_of : (q : ℕ) (phrase : List ℕ) → 1 ≤ q → length phrase ≤ longest_phrase → Counts (count_of (figures q phrase))
 counts_of q phrase a b =
     let l = length_figures q phrase a in
     record {
       coded = λ h k. let i = of_in (figures q phrase) h k in (i.0, omega (arith, i.1));
-      few = λ h. let i = of_few (figures q phrase) h in omega arith;
+      few = λ h. let i = count_of_small (figures q phrase) h in omega arith;
     }
 
 -- the counts of the first n of the figures ds, together

@@ -26,7 +26,7 @@ module _ (cs : List ℕ) (c : ℕ) (some : 0 < length cs) where
   pub length_pushed : length (push c cs) ≡ length cs
   length_pushed = let a = length_push (drop 1 cs) c in let b = length-drop 1 cs in omega arith
 
-  pub entry_push : (n h j e : ℕ) → Entry cs n h j e → Entry (push c cs) (n + 1) h (j + cond (eqb h c) 1 0) e
+  entry_push : (n h j e : ℕ) → Entry cs n h j e → Entry (push c cs) (n + 1) h (j + cond (eqb h c) 1 0) e
   entry_push n h j e en =
       let l = length_pushed in
       let ld = length-drop 1 cs in
@@ -95,7 +95,7 @@ module _ (cs : List ℕ) (c : ℕ) (some : 0 < length cs) where
       none : times c [] ≡ 0
       none = unfold times in refl
 
-pub times_zeros : (h w : ℕ) → 0 < h → times h (replicate w 0) ≡ 0
+times_zeros : (h w : ℕ) → 0 < h → times h (replicate w 0) ≡ 0
 unfolding times
 times_zeros h zero k = refl
 times_zeros h (suc w) k = ap (λ b. cond b 1 0 + times h (replicate w 0)) (ne_eqb h 0 (λ e. absurd (omega arith))) ∙ omega (arith, times_zeros h w k)

@@ -75,10 +75,10 @@ module _ {S R M : Type 0} (sound : S → ℕ) (memory : R → Memory) (marks : M
   pub represents_step : (s t : Slot S R M) (l : Lengths) (h : History S) (x : S) (a : Answer) (c n : ℕ)
       → s.lengths ≡ Some l → Represents sound memory marks s h
       → ListenTold (memory s.reader) (sound x) (memory t.reader) c n
-      → Turned (marks s.row) s.recent t.count c n (marks t.row) t.recent
-      → t.lengths ≡ s.lengths → t.count ≡ s.count + 1 → t.last ≡ Some x
-      → ReadsOff l.phrase l.figure t.count (marks t.row) a → t.best ≡ Some (better_of s.best a)
-      → answers t.lamp ≡ answered a.gap a.step (answers s.lamp)
+      → Turned (marks s.row) s.progress.recent t.progress.count c n (marks t.row) t.progress.recent
+      → t.lengths ≡ s.lengths → t.progress.count ≡ s.progress.count + 1 → t.progress.last ≡ Some x
+      → ReadsOff l.phrase l.figure t.progress.count (marks t.row) a → t.progress.best ≡ Some (better_of s.progress.best a)
+      → answers t.progress.lamp ≡ answered a.gap a.step (answers s.progress.lamp)
       → Answered sound (stepped h x) a × Represents sound memory marks t (stepped h x)
   represents_step s t l h x a c n es k hs turned et ec el off eb ea =
       let p = map sound h.phrase in
@@ -92,20 +92,20 @@ module _ {S R M : Type 0} (sound : S → ℕ) (memory : R → Memory) (marks : M
       let some : 0 < length h.phrase = omega arith in
       let old = k.tracks some in
       let e3 = k.count in
-      let both = tracks_step h.q p u (memory s.reader) (memory t.reader) s.recent t.recent (marks s.row) (marks t.row) (sound x) c n t.count
+      let both = tracks_step h.q p u (memory s.reader) (memory t.reader) s.progress.recent t.progress.recent (marks s.row) (marks t.row) (sound x) c n t.progress.count
       old k.rings hs turned (omega arith) in
       let tracks = both.0 in
       let lpush = length_push u (sound x) in
-      let off' = subst (λ i. ReadsOff l.phrase i t.count (marks t.row) a) e2 off in
+      let off' = subst (λ i. ReadsOff l.phrase i t.progress.count (marks t.row) a) e2 off in
       let em' : l.phrase ≡ length p = omega arith in
-      let en' : t.count ≡ length (u ++ (sound x ∷ [])) = omega arith in
-      let near = tracks_closest h.q p (u ++ (sound x ∷ [])) (memory t.reader) (marks t.row) l.phrase t.count a tracks em' en' off' in
-      let small = small_gap h.q p (u ++ (sound x ∷ [])) (memory t.reader) (marks t.row) l.phrase t.count a tracks em' en' off' in
+      let en' : t.progress.count ≡ length (u ++ (sound x ∷ [])) = omega arith in
+      let near = tracks_closest h.q p (u ++ (sound x ∷ [])) (memory t.reader) (marks t.row) l.phrase t.progress.count a tracks em' en' off' in
+      let small = small_gap h.q p (u ++ (sound x ∷ [])) (memory t.reader) (marks t.row) l.phrase t.progress.count a tracks em' en' off' in
       let e = sym (map_push sound h.take x) in
       let num = off.number in
-      let few = t.few in
+      let few = t.progress.few in
       let lt = length_push h.take x in
-      let best = best_step h.q p u (sound x) s.best a (best_empty sound h.q p h.take s.best k.best) near (omega arith) in
+      let best = best_step h.q p u (sound x) s.progress.best a (best_empty sound h.q p h.take s.progress.best k.best) near (omega arith) in
       let told : Answered sound (stepped h x) a = record { number = omega arith; closest = subst (λ z. Closest h.q p z a.gap a.start) e near } in (
         told,
         record {
@@ -114,8 +114,8 @@ module _ {S R M : Type 0} (sound : S → ℕ) (memory : R → Memory) (marks : M
           count = omega arith;
           last = el ∙ sym (last_push h.take x);
           best = subst (λ o. MatchOption o (h.take ++ (x ∷ []) ≡ []) (BestIs h.q p (map sound (h.take ++ (x ∷ []))))) (sym eb)
-              (subst (λ z. BestIs h.q p z (better_of s.best a)) e best);
-          lamp = list_step sound h x a (answers s.lamp) (answers t.lamp) k.lamp told (ea ∙ in_range a (answers s.lamp) small (omega arith));
+              (subst (λ z. BestIs h.q p z (better_of s.progress.best a)) e best);
+          lamp = list_step sound h x a (answers s.progress.lamp) (answers t.progress.lamp) k.lamp told (ea ∙ in_range a (answers s.progress.lamp) small (omega arith));
           rings = both.1 ∙ ap (rings_at h.q p) e;
           empty = λ none. absurd (omega arith);
           tracks = λ _. subst (λ z. Tracks h.q p z (memory t.reader) (marks t.row)) e tracks;

@@ -18,10 +18,10 @@ use Rattle.finder.proofs.Ran.{ran_more, ran_none, played_push}
 module _ {S R M : Type 0} (sound : S → ℕ) (memory : R → Memory) (marks : M → List Mark) where
   pub step_played : (s t : Slot S R M) (l : Lengths) (x : S) (a : Answer) (b : BestStretch) (c n : ℕ)
       → s.lengths ≡ Some l → ListenTold (memory s.reader) (sound x) (memory t.reader) c n
-      → Turned (marks s.row) s.recent t.count c n (marks t.row) t.recent
-      → t.lengths ≡ s.lengths → t.count ≡ s.count + 1 → t.last ≡ Some x
-      → ReadsOff l.phrase l.figure t.count (marks t.row) a → t.best ≡ Some b → b ≡ better_of s.best a
-      → answers t.lamp ≡ answered a.gap a.step (answers s.lamp)
+      → Turned (marks s.row) s.progress.recent t.progress.count c n (marks t.row) t.progress.recent
+      → t.lengths ≡ s.lengths → t.progress.count ≡ s.progress.count + 1 → t.progress.last ≡ Some x
+      → ReadsOff l.phrase l.figure t.progress.count (marks t.row) a → t.progress.best ≡ Some b → b ≡ better_of s.progress.best a
+      → answers t.progress.lamp ≡ answered a.gap a.step (answers s.progress.lamp)
       → PlayTold sound memory marks s x a t
   step_played s t l x a b c n es hs turned et ec el off eb best ea = record {
     exact = λ h k. represents_step sound memory marks s t l h x a c n es k hs turned et ec el off (eb ∙ ap Some best) ea;

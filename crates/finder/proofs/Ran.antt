@@ -9,7 +9,7 @@ with_take h t = record { phrase = h.phrase; q = h.q; take = t }
 pub ran_more : {S : Type 0} (h : History S) (xs : List S) (x : S) → stepped (ran h xs) x ≡ ran h (xs ++ (x ∷ []))
 ran_more h xs x = ap (with_take h) (append_assoc h.take xs (x ∷ []))
 
-pub ran_cons : {S : Type 0} (h : History S) (y : S) (xs : List S) → ran (stepped h y) xs ≡ ran h (y ∷ xs)
+ran_cons : {S : Type 0} (h : History S) (y : S) (xs : List S) → ran (stepped h y) xs ≡ ran h (y ∷ xs)
 ran_cons h y xs = ap (with_take h) (append_assoc h.take (y ∷ []) xs)
 
 pub ran_none : {S : Type 0} (h : History S) → ran h [] ≡ h

@@ -28,12 +28,12 @@ pub record Laid (rs : List Ring) (f : ℕ → ℕ) : Type 0 where
 -- r keeps the last occurrences at step n among the newest codes cs
 pub record Recalls (r : Recent) (n : ℕ) (f : ℕ → ℕ) (cs : List ℕ) : Type 0 where
   pub laid : Laid r.rings f
-  pub long_steps : length r.steps ≡ longest_phrase
-  pub long_rings : length r.rings ≡ longest_phrase
-  pub entries : (h k : ℕ) → 0 < h → h ≤ longest_phrase → k < f h
+  long_steps : length r.steps ≡ longest_phrase
+  long_rings : length r.rings ≡ longest_phrase
+  entries : (h k : ℕ) → 0 < h → h ≤ longest_phrase → k < f h
       → Entry cs n h (order (wrap (ring_of r.rings h).next (f h)) (f h) k) (get_or r.steps ((ring_of r.rings h).first + k) 0)
 
-pub wrap_in : (at n : ℕ) → 0 < n → wrap at n < n
+wrap_in : (at n : ℕ) → 0 < n → wrap at n < n
 wrap_in at n h = grind (arith, nat_tests)
 
 order_old : (p n : ℕ) → p < n → order p n p ≡ n - 1
@@ -62,13 +62,13 @@ before_mono f m (suc n) = let k = before_mono f m n in let e = ap (before f) (ad
 before_le : (f : ℕ → ℕ) (m n : ℕ) → m ≤ n → before f m ≤ before f n
 before_le f m n h = let k = before_mono f m (n - m) in let d : m + (n - m) ≡ n = omega arith in let e = ap (before f) d in omega arith
 
-pub before_here : (f : ℕ → ℕ) (h : ℕ) → 0 < h → before f h ≡ before f (h - 1) + f h
+before_here : (f : ℕ → ℕ) (h : ℕ) → 0 < h → before f h ≡ before f (h - 1) + f h
 unfolding before
 before_here f zero k = absurd (omega arith)
 before_here f (suc h) k = ap (λ i. before f i + f (suc h)) (omega arith)
 
 module _ (rs : List Ring) (f : ℕ → ℕ) (l : Laid rs f) where
-  pub ring_in : (h : ℕ) → 0 < h → h ≤ longest_phrase → (ring_of rs h).first + f h ≤ longest_phrase
+  ring_in : (h : ℕ) → 0 < h → h ≤ longest_phrase → (ring_of rs h).first + f h ≤ longest_phrase
   ring_in h a b =
       let e = l.at (h - 1) (omega arith) in
       let t = before_here f h a in
@@ -167,7 +167,7 @@ module _ (r : Recent) (n : ℕ) (f : ℕ → ℕ) (cs : List ℕ) (h p : ℕ) (s
   p_in : p < f h
   p_in = let a = wrap_in (ring_of r.rings h).next (f h) want in omega arith
 
-  pub oldest_entry : Entry (push h cs) (n + 1) h (f h) (get_or r.steps ((ring_of r.rings h).first + p) 0)
+  oldest_entry : Entry (push h cs) (n + 1) h (f h) (get_or r.steps ((ring_of r.rings h).first + p) 0)
   oldest_entry =
       let e = keeps.entries h p from to p_in in
       let o : order (wrap (ring_of r.rings h).next (f h)) (f h) p ≡ f h - 1 = ap (λ i. order i (f h) p) (sym at) ∙ order_old p (f h) p_in in

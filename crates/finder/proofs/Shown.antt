@@ -1,6 +1,6 @@
 -- Lamp and view.
-use Rattle.std.proofs.Common.{◌≡◌, ℕ, ◌-◌, ◌<◌, Ok, subst, List, [], ◌∷◌, map, length, Some, None, Option, sym, refl, ap, ◌∙◌, arith}
-use Rattle.std.proofs.lemmas.List.{length-map, length-drop}
+use Rattle.std.proofs.Common.{◌≡◌, ℕ, ◌-◌, ◌<◌, Ok, subst, List, [], map, length, Some, None, Option, sym, refl, ap, ◌∙◌, arith}
+use Rattle.std.proofs.lemmas.List.{length-map, length-drop, nil_from_length}
 use Rattle.std.proofs.lemmas.Slice.{between_is}
 use Rattle.std.proofs.lemmas.Bool.Decides.{nat_tests}
 use Rattle.std.specs.Prelude.{slice_range}
@@ -20,10 +20,6 @@ pub played_length : {S : Type 0} (sound : S → ℕ) {h : History S} {xs : List 
 played_length sound none = refl
 played_length sound (more j rest) = let k = played_length sound rest in omega arith
 
-pub no_steps : {A : Type 0} (xs : List A) → length xs ≡ 0 → xs ≡ []
-no_steps [] e = refl
-no_steps (x ∷ xs) e = absurd (omega arith)
-
 list_none : {S : Type 0} (sound : S → ℕ) (h : History S) (ls : List (ℕ × ℕ)) → LampList sound h ls → ls ≡ [] → h.take ≡ []
 list_none sound h ls k e =
     let ms : List (ℕ × ℕ) = map gap_and_step k.all in
@@ -31,18 +27,18 @@ list_none sound h ls k e =
     let b = length-drop (length ms - lamp_length) ms in
     let d = length-map k.all gap_and_step in
     let p = played_length sound k.played in
-    no_steps h.take (omega arith)
+    nil_from_length h.take (omega arith)
 
 lamp_of : {S : Type 0} (sound : S → ℕ) (h : History S) (ls : List (ℕ × ℕ)) (o : Option (ℕ × ℕ)) → LampList sound h ls → LampShows ls o → LampOf sound h o
 lamp_of sound h ls None k e = list_none sound h ls k e
 lamp_of sound h ls (Some l) k e = record { list = ls; listed = k; shows = e }
 
 pub lamp_told : {S R M : Type 0} (sound : S → ℕ) (memory : R → Memory) (marks : M → List Mark) (s : Slot S R M) (o : Option (ℕ × ℕ))
-    → LampShows (answers s.lamp) o → LampTold sound memory marks s o
-lamp_told sound memory marks s o e = record { exact = λ h t. lamp_of sound h (answers s.lamp) o t.lamp e }
+    → LampShows (answers s.progress.lamp) o → LampTold sound memory marks s o
+lamp_told sound memory marks s o e = record { exact = λ h t. lamp_of sound h (answers s.progress.lamp) o t.lamp e }
 
 pub view_told : {S R M : Type 0} (sound : S → ℕ) (memory : R → Memory) (marks : M → List Mark) (s : Slot S R M) (xs : List S) (b : BestStretch) (v : Bor (List S) × ℕ)
-    → length xs ≡ s.count → s.best ≡ Some b → v.0.now ≡ slice_range xs (b.start - 1) b.end → v.1 ≡ b.start - 1
+    → length xs ≡ s.progress.count → s.progress.best ≡ Some b → v.0.now ≡ slice_range xs (b.start - 1) b.end → v.1 ≡ b.start - 1
     → ViewTold sound memory marks s xs (Ok v)
 view_told sound memory marks s xs b v l e is at = record {
   exact = λ h t.

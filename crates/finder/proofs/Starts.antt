@@ -1,20 +1,16 @@
 -- New slots, loads and clearings.
-use Rattle.std.proofs.Common.{◌≡◌, ℕ, zero, suc, ◌+◌, ◌-◌, ◌*◌, ◌<◌, ◌≤◌, true, List, [], map, length, replicate, Some, None, sym, refl, ap, ◌∙◌, subst, arith, MatchOption}
-use native.Mathlib.Bridge.{le_prop}
-use denote.Struct.Props.{props}
+use Rattle.std.proofs.Common.{◌≡◌, ℕ, zero, suc, ◌+◌, ◌-◌, ◌*◌, ◌<◌, ◌≤◌, List, [], map, length, replicate, Some, None, sym, refl, ap, ◌∙◌, subst, arith, MatchOption}
 use Rattle.std.proofs.lemmas.List.{length-map}
-use Rattle.terms.specs.Limits.{longest_phrase, longest_take}
+use Rattle.terms.specs.Limits.{longest_phrase}
 use Rattle.terms.specs.Closest.{Best}
 use Rattle.terms.specs.Figures.{figures, different}
 use Rattle.terms.specs.Codes.{count_of, count_at}
 use Rattle.readers.specs.Memory.{Memory, nothing, held, counted, forgotten}
-use Rattle.rows.specs.LampRings.{answers}
 use Rattle.rows.specs.declared.mark.Mark.{Mark}
 use Rattle.rows.specs.declared.mark.Mark.TheVariants.{Plus}
 use Rattle.finder.specs.Recent.{before, laid}
-use Rattle.finder.specs.Turns.{Begun, StartedOver}
+use Rattle.finder.specs.Turns.{Fresh, Begun, StartedOver}
 use Rattle.finder.specs.History.{History, unloaded, loaded, cleared, none}
-use Rattle.finder.specs.Inside.{within}
 use Rattle.finder.specs.Slots.{width, length_of, figure_of, Represents}
 use Rattle.finder.specs.declared.slot.Lengths.{Lengths}
 use Rattle.finder.specs.declared.slot.Slot.{Slot}
@@ -34,21 +30,19 @@ before_nothing zero = refl
 before_nothing (suc n) = let a = before_nothing n in omega arith
 
 module _ {S R M : Type 0} (sound : S → ℕ) (memory : R → Memory) (marks : M → List Mark) where
-  pub represents_unloaded : (s : Slot S R M) → s.lengths ≡ None → s.count ≡ 0 → s.last ≡ None → s.best ≡ None → answers s.lamp ≡ []
-      → memory s.reader ≡ nothing → marks s.row ≡ []
-      → (before (counted (memory s.reader)) longest_phrase ≤ longest_phrase → s.recent ≡ laid (counted (memory s.reader)))
+  pub represents_unloaded : (s : Slot S R M) → s.lengths ≡ None → memory s.reader ≡ nothing → marks s.row ≡ [] → Fresh (memory s.reader) s.progress
       → Represents sound memory marks s unloaded
-  represents_unloaded s el ec ea eb en em er rings =
+  represents_unloaded s el em er f =
       let counts : counted (memory s.reader) ≡ (λ _. 0) = ap counted em in
       let none_left = sym (ap (λ f. before f longest_phrase) counts) in
       record {
         size = ap length_of el;
         figure = ap figure_of el;
-        count = ec;
-        last = ea;
-        best = subst (λ o. MatchOption o (◌≡◌ {A = List S} [] []) (λ x. Best 0 [] [] x.gap x.start x.end)) (sym eb) refl;
-        lamp = record { all = []; played = none; latest = en };
-        rings = rings (omega (arith, before_nothing longest_phrase)) ∙ ap laid (counts ∙ (λ i n. no_counts n i)) ∙ sym (rings_start 0 []);
+        count = f.count;
+        last = f.last;
+        best = subst (λ o. MatchOption o (◌≡◌ {A = List S} [] []) (λ x. Best 0 [] [] x.gap x.start x.end)) (sym f.best) refl;
+        lamp = record { all = []; played = none; latest = f.lamp };
+        rings = f.rings (omega (arith, before_nothing longest_phrase)) ∙ ap laid (counts ∙ (λ i n. no_counts n i)) ∙ sym (rings_start 0 []);
         empty = λ _. (em, er, refl);
         tracks = λ some. absurd (omega arith);
       }
@@ -68,11 +62,11 @@ module _ {S R M : Type 0} (sound : S → ℕ) (memory : R → Memory) (marks : M
       record {
         size = ap length_of b.lengths ∙ em;
         figure = ap figure_of b.lengths ∙ eq;
-        count = b.count;
-        last = b.last;
-        best = subst (λ o. MatchOption o (◌≡◌ {A = List S} [] []) (λ x. Best q (map sound ps) [] x.gap x.start x.end)) (sym b.best) refl;
-        lamp = record { all = []; played = none; latest = b.lamp };
-        rings = b.rings bound ∙ ap (λ m. laid (counted m)) em' ∙ sym (rings_start q (map sound ps));
+        count = b.progress.count;
+        last = b.progress.last;
+        best = subst (λ o. MatchOption o (◌≡◌ {A = List S} [] []) (λ x. Best q (map sound ps) [] x.gap x.start x.end)) (sym b.progress.best) refl;
+        lamp = record { all = []; played = none; latest = b.progress.lamp };
+        rings = b.progress.rings bound ∙ ap (λ m. laid (counted m)) em' ∙ sym (rings_start q (map sound ps));
         empty = λ e. absurd (omega arith);
         tracks = λ _. tracks_start q (map sound ps) (memory t.reader) (marks t.row) from (omega arith) (omega arith)
             (ap memory b.reader ∙ em') (b.row ∙ ap (λ i. replicate i Plus) ww);
@@ -93,31 +87,6 @@ module _ {S R M : Type 0} (sound : S → ℕ) (memory : R → Memory) (marks : M
       → StartedOver sound memory marks s l t
   started_over s u t l em b = record { exact = λ h k es. represents_cleared s u t l h k es em b }
 
--- a slot with its reader put back is the slot: its facts have one proof each
-pub back : {S R M : Type 0} (s : Slot S R M) (r : R) (d : s.count ≤ longest_take) (k : within s.best s.count ≡ true) → r ≡ s.reader
-    → ◌≡◌ {A = Slot S R M} record {
-      reader = r;
-      row = s.row;
-      recent = s.recent;
-      lengths = s.lengths;
-      count = s.count;
-      last = s.last;
-      best = s.best;
-      lamp = s.lamp;
-      few = d;
-      lies = k;
-    } s
-back s r d k e =
-    let p : IsProp (within s.best s.count ≡ true) = hlevel props in
-    λ i. record {
-      reader = e i;
-      row = s.row;
-      recent = s.recent;
-      lengths = s.lengths;
-      count = s.count;
-      last = s.last;
-      best = s.best;
-      lamp = s.lamp;
-      few = le_prop d s.few i;
-      lies = p k s.lies i;
-    }
+-- a slot with its reader put back is the slot
+pub back : {S R M : Type 0} (s : Slot S R M) (r : R) → r ≡ s.reader → ◌≡◌ {A = Slot S R M} record { reader = r; row = s.row; lengths = s.lengths; progress = s.progress } s
+back s r e = ap (λ z. record { reader = z; row = s.row; lengths = s.lengths; progress = s.progress }) e

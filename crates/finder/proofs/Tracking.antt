@@ -91,7 +91,7 @@ module _ (ms ms' : List Mark) (r r' : Recent) (f : ℕ → ℕ) (cs : List ℕ) 
       minus : (i : ℕ) → (i ≡ 0 → ⊥) → mark_for i ≡ Minus
       minus i h = rw (ne_eqb i 0 h)
 
-  pub turned_on : (r' ≡ recalled f r step h) × (map worth ms' ≡ marks_for f (push h cs))
+  turned_on : (r' ≡ recalled f r step h) × (map worth ms' ≡ marks_for f (push h cs))
   turned_on = elim (cases_eq n 0) [ inl z ↦ not_wanted z | inr z ↦ is_wanted z ]
 
 heard_by : {p e : List ℕ} {q x a : ℕ} {m : Memory} → Hears (held p q e) x m a

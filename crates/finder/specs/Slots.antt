@@ -44,11 +44,11 @@ module _ {S R M : Type 0} (sound : S → ℕ) (memory : R → Memory) (marks : M
   pub record Represents (s : Slot S R M) (h : History S) : Type 0 where
     pub size : length_of s.lengths ≡ length h.phrase
     pub figure : figure_of s.lengths ≡ h.q
-    pub count : s.count ≡ length h.take
-    pub last : s.last ≡ last_step h.take
-    pub best : BestOf sound h s.best
-    pub lamp : LampList sound h (answers s.lamp)
-    pub rings : s.recent ≡ rings_at h.q (map sound h.phrase) (map sound h.take)
+    pub count : s.progress.count ≡ length h.take
+    pub last : s.progress.last ≡ last_step h.take
+    pub best : BestOf sound h s.progress.best
+    pub lamp : LampList sound h (answers s.progress.lamp)
+    pub rings : s.progress.recent ≡ rings_at h.q (map sound h.phrase) (map sound h.take)
     pub empty : length h.phrase ≡ 0 → (memory s.reader ≡ nothing) × (marks s.row ≡ []) × (h.take ≡ [])
     pub tracks : 0 < length h.phrase
         → Tracks h.q (map sound h.phrase) (map sound h.take) (memory s.reader) (marks s.row)

@@ -16,6 +16,7 @@ use Rattle.finder.specs.Slots.{Represents, length_of}
 use Rattle.finder.specs.declared.recent.Recent.{Recent}
 use Rattle.finder.specs.declared.slot.Lengths.{Lengths}
 use Rattle.finder.specs.declared.slot.Slot.{Slot}
+use Rattle.finder.specs.declared.progress.Progress.{Progress}
 
 -- the code h is heard at the sound x, and its figure is wanted n times
 pub record ListenTold (m : Memory) (x : ℕ) (m' : Memory) (h n : ℕ) : Type 0 where
@@ -32,11 +33,7 @@ pub record Noted (r : Recent) (step h n : ℕ) (o : Option ℕ) (r' : Recent) : 
 abbrev pub mark_for : ℕ → Mark
 mark_for n = cond (n == 0) Plus Minus
 
--- the mark of an age is lifted, where there is one
-abbrev pub lifted_by : Option ℕ → List Mark → List Mark
-lifted_by None ms = ms
-lifted_by (Some age) ms = lifted age ms
-
+-- the mark of an age is lifted, where there is one and the row has it
 pub record Lifted (ms : List Mark) (o : Option ℕ) (ms' : List Mark) : Type 0 where
   pub exact : MatchOption o (ms' ≡ ms) (λ age. (age < length ms → ms' ≡ lifted age ms) × (length ms ≤ age → ms' ≡ ms))
 
@@ -65,16 +62,20 @@ pub record Judged (ls : Option Lengths) (n k r : ℕ) (o : Result Lengths Refusa
   pub exact : MatchResult o (λ _. run_refusal (length_of ls) n k r ≡ None) (λ e. run_refusal (length_of ls) n k r ≡ Some e)
   pub free : IfOk o (λ l. (k ≡ r) × (ls ≡ Some l) × (n + k ≤ longest_take))
 
+-- no step is tallied, and the rings are those of the phrase that a reader with the memory m holds
+pub record Fresh {S : Type 0} (m : Memory) (t : Progress S) : Type 0 where
+  pub rings : before (counted m) longest_phrase ≤ longest_phrase → t.recent ≡ laid (counted m)
+  pub count : t.count ≡ 0
+  pub last : t.last ≡ None
+  pub best : t.best ≡ None
+  pub lamp : answers t.lamp ≡ []
+
 module _ {S R M : Type 0} (sound : S → ℕ) (memory : R → Memory) (marks : M → List Mark) where
   -- a new take begins on a phrase of the lengths l, with the reader as it is
   pub record Begun (s : Slot S R M) (l : Lengths) (t : Slot S R M) : Type 0 where
     pub reader : t.reader ≡ s.reader
-    pub rings : before (counted (memory s.reader)) longest_phrase ≤ longest_phrase → t.recent ≡ laid (counted (memory s.reader))
     pub lengths : t.lengths ≡ Some l
-    pub count : t.count ≡ 0
-    pub last : t.last ≡ None
-    pub best : t.best ≡ None
-    pub lamp : answers t.lamp ≡ []
+    pub progress : Fresh (memory s.reader) t.progress
     pub row : marks t.row ≡ replicate (2 * (l.phrase - l.figure + 1)) Plus
 
   -- what a clearing does where there is a phrase, of the lengths l
@@ -87,7 +88,7 @@ module _ {S R M : Type 0} (sound : S → ℕ) (memory : R → Memory) (marks : M
     pub exact : (h : History S) → Represents sound memory marks s h
         → Answered sound (stepped h x) a × Represents sound memory marks t (stepped h x)
     pub lengths : t.lengths ≡ s.lengths
-    pub longer : t.count ≡ s.count + 1
+    pub longer : t.progress.count ≡ s.progress.count + 1
 
   -- what the steps xs do that are not refused
   pub record PlayAllTold (s : Slot S R M) (xs : List S) (t : Slot S R M) (cs : List Answer) : Type 0 where

@@ -1,10 +1,10 @@
 ghost use Rattle.std.specs.Prelude.{◌≡◌, ◌+◌, ◌-◌, ◌*◌, ◌<◌, ◌≤◌, [], map, length};
 ghost use Rattle.terms.specs.Limits.{longest_phrase, longest_take};
-ghost use Rattle.readers.specs.Memory.{nothing};
 ghost use Rattle.finder.specs.History.{unloaded};
 ghost use Rattle.finder.specs.Slots.{Represents, LoadTold, StepTold, RunTold, ClearTold};
-ghost use Rattle.finder.specs.Turns.{ReadsOff, Begun, StartedOver, PlayTold, PlayAllTold, Judged};
+ghost use Rattle.finder.specs.Turns.{ReadsOff, Begun, StartedOver, Fresh, PlayTold, PlayAllTold, Judged};
 
+use crate::progress::Progress;
 use crate::recent::Recent;
 use crate::slot::{Lengths, Slot};
 use crate::turning::{gap_of, listen, start_of, turn};
@@ -22,24 +22,14 @@ impl<S: Step, R: Reader, M: Row> Slot<S, R, M> {
     pub(crate) fn new() -> Self
         ensures { Represents S.Step.sound R.Reader.memory M.Row.marks result unloaded }
     {
-        Slot::without_phrase(R::new(), M::new())
-    }
-
-    // A slot of a reader that holds nothing and a row without marks.
-    fn without_phrase(reader: R, row: M) -> Self
-        requires { (R.Reader.memory reader ≡ nothing) × (M.Row.marks row ≡ []) }
-        ensures { Represents S.Step.sound R.Reader.memory M.Row.marks result unloaded }
-    {
-        let recent = Recent::for_codes(&reader);
+        let reader = R::new();
+        let row = M::new();
+        let progress = Progress::new(&reader);
         Slot {
             reader,
             row,
-            recent,
             lengths: None,
-            count: 0,
-            last: None,
-            best: None,
-            lamp: LampRing::new(),
+            progress,
         }
     }
 
@@ -82,18 +72,14 @@ impl<S: Step, R: Reader, M: Row> Slot<S, R, M> {
         self.begin(lengths);
     }
 
-    // A new take on a phrase of these lengths: rings without steps, a row of +1 alone, and no step, answer or best.
+    // A new take on a phrase of these lengths: a row of +1 alone, and nothing tallied.
     fn begin(&mut self, lengths: Lengths)
         ensures { Begun S.Step.sound R.Reader.memory M.Row.marks
             self.old lengths self.new }
     {
-        self.recent = Recent::for_codes(&self.reader);
-        let _ = self.row.start(lengths.width());
+        self.row.start(lengths.width()).unwrap();
         self.lengths = Some(lengths);
-        self.count = 0;
-        self.last = None;
-        self.best = None;
-        self.lamp = LampRing::new();
+        self.progress = Progress::new(&self.reader);
     }
 
     // One step more, and the answer to it.
@@ -102,38 +88,43 @@ impl<S: Step, R: Reader, M: Row> Slot<S, R, M> {
             self.old x result self.new }
     {
         let lengths = self.lengths.ok_or(Refusal::EmptySlot)?;
-        if self.count >= LONGEST_TAKE {
+        if self.progress.count >= LONGEST_TAKE {
             return Err(Refusal::FullTake);
         }
         Ok(self.play(x, lengths))
     }
 
-    // A step that is not refused.
+    // A step that is not refused. The lengths are handed on once they are known to be there.
     fn play(&mut self, x: S, lengths: Lengths) -> Answer
-        requires { (self.old.count < longest_take) × (self.old.lengths ≡ Some lengths) }
+        requires { (self.old.progress.count < longest_take) × (self.old.lengths ≡ Some lengths) }
         ensures { PlayTold S.Step.sound R.Reader.memory M.Row.marks
             self.old x result self.new }
     {
         let heard = listen(&mut self.reader, x);
-        self.count += 1;
-        turn(&mut self.row, &mut self.recent, self.count, heard);
-        self.last = Some(x);
+        self.progress.count += 1;
+        turn(
+            &mut self.row,
+            &mut self.progress.recent,
+            self.progress.count,
+            heard,
+        );
+        self.progress.last = Some(x);
         let a = self.answer(lengths);
-        self.best = Some(BestStretch::better(self.best, a));
-        self.lamp.add(a.gap, a.step);
+        self.progress.best = Some(BestStretch::better(self.progress.best, a));
+        self.progress.lamp.add(a.gap, a.step);
         a
     }
 
     // The answer that the row gives.
     fn answer(&self, lengths: Lengths) -> Answer
-        ensures { ReadsOff lengths.phrase lengths.figure self.now.count
+        ensures { ReadsOff lengths.phrase lengths.figure self.now.progress.count
             (M.Row.marks self.now.row) result }
     {
         let (least, span) = self.row.least();
         let gap = gap_of(lengths.figures(), least);
-        let start = start_of(self.count, lengths.figure, span);
+        let start = start_of(self.progress.count, lengths.figure, span);
         Answer {
-            step: self.count,
+            step: self.progress.count,
             gap,
             start,
         }
@@ -152,13 +143,13 @@ impl<S: Step, R: Reader, M: Row> Slot<S, R, M> {
 
     // Whether a run of so many steps, with so many records, is turned away; the slot's lengths where it is not.
     fn check_run(&self, steps: usize, records: usize) -> Result<Lengths, Refusal>
-        ensures { Judged self.now.lengths self.now.count steps records result }
+        ensures { Judged self.now.lengths self.now.progress.count steps records result }
     {
         if steps != records {
             return Err(Refusal::UnevenLists);
         }
         let lengths = self.lengths.ok_or(Refusal::EmptySlot)?;
-        if steps > (LONGEST_TAKE - self.count) as usize {
+        if steps > (LONGEST_TAKE - self.progress.count) as usize {
             return Err(Refusal::FullTake);
         }
         Ok(lengths)
@@ -169,12 +160,28 @@ impl<S: Step, R: Reader, M: Row> Slot<S, R, M> {
     fn play_all(&mut self, steps: &[S], records: &mut [Answer], lengths: Lengths)
         requires even { length steps.now ≡ length records.old }
         requires loaded { self.old.lengths ≡ Some lengths }
-        requires room { self.old.count + length steps.now ≤ longest_take }
+        requires room { self.old.progress.count + length steps.now ≤ longest_take }
         ensures { PlayAllTold S.Step.sound R.Reader.memory M.Row.marks
             self.old steps.now self.new records.new }
     {
         for (i, x) in steps.iter().enumerate() {
+            // By index: a record lies beside its step, and of what zip lends of the records a proof learns no element.
             records[i] = self.play(*x, lengths);
+        }
+    }
+}
+
+impl<S: Drop> Progress<S> {
+    // Of no step, with rings for the phrase that a reader holds.
+    pub(crate) fn new<R: Reader>(reader: &R) -> Self
+        ensures { Fresh (R.Reader.memory reader.now) result }
+    {
+        Progress {
+            recent: Recent::for_codes(reader),
+            count: 0,
+            last: None,
+            best: None,
+            lamp: LampRing::new(),
         }
     }
 }
@@ -186,6 +193,7 @@ fn sounds_of<S: Step>(phrase: &[S]) -> ArrayVec<u32, LONGEST_PHRASE>
 {
     let mut sounds = ArrayVec::new();
     for x in phrase {
+        // By push: `collect` asks for an allocator, and `extend` answers an error that cannot come here.
         sounds.push(x.sound());
     }
     sounds

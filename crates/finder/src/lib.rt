@@ -3,6 +3,7 @@
 
 mod driving;
 pub mod ones;
+mod progress;
 mod recent;
 mod slot;
 pub mod takes;

@@ -10,16 +10,17 @@ use terms::limits::LONGEST_PHRASE;
 
 // Where the ring of a code begins among the steps, and which of its places is written next.
 #[derive(Clone, Copy)]
-pub struct Ring {
+pub(crate) struct Ring {
     pub(crate) first: usize,
     pub(crate) next: usize,
 }
 
 // For each code the numbers of the last steps at which it was heard, as many as its figure stands in the phrase, as a
-// ring. The rings lie one after another among the steps, in the order of the codes, which begin at 1.
+// ring. The rings lie one after another among the steps, in the order of the codes, which begin at 1: one list for all,
+// since the memory is fixed and together they are no longer than the phrase.
 // Steps count from 1, and 0 is none: an Option for each would take twice the room and say no more.
 #[derive(Drop)]
-pub struct Recent {
+pub(crate) struct Recent {
     pub(crate) steps: [u32; LONGEST_PHRASE],
     pub(crate) rings: [Ring; LONGEST_PHRASE],
 }
@@ -57,7 +58,7 @@ impl Recent {
     }
 }
 
-// The place to write at in a ring of n places.
+// The place to write at in a ring of n places: total, since a ring has no invariant, and so not rows' `wrap`.
 fn wrapped(at: usize, n: usize) -> usize
     ensures { result ≡ wrap at n }
 {

@@ -1,14 +1,11 @@
-ghost use Rattle.std.specs.Prelude.{◌≡◌, ◌+◌, ◌-◌, ◌*◌, ◌≤◌, true};
-ghost use Rattle.terms.specs.Limits.{longest_phrase, longest_figure, longest_take};
-ghost use Rattle.finder.specs.Inside.{within};
+ghost use Rattle.std.specs.Prelude.{◌≡◌, ◌+◌, ◌-◌, ◌*◌, ◌≤◌};
+ghost use Rattle.terms.specs.Limits.{longest_phrase, longest_figure};
 
-use crate::recent::Recent;
-use rows::lamp_ring::LampRing;
-use terms::answer::BestStretch;
+use crate::progress::Progress;
 
 // The length of a phrase and of its figures.
 #[derive(Clone, Copy)]
-pub struct Lengths {
+pub(crate) struct Lengths {
     pub(crate) phrase: usize,
     pub(crate) figure: usize,
     ghost some: { 1 ≤ figure },
@@ -34,18 +31,13 @@ impl Lengths {
 }
 
 // One reader and one row of any make, for one kind of step. It does not keep the take, only how many steps it has.
+// Its methods have the calls of both takes: the two lend their calls to these. Their clauses are given sound, memory and
+// marks one by one, since a definition in specs/ names a slot of any three types.
 #[derive(Drop)]
-pub struct Slot<S, R, M> {
+pub(crate) struct Slot<S, R, M> {
     pub(crate) reader: R,
     pub(crate) row: M,
-    pub(crate) recent: Recent,
     // None in an empty slot.
     pub(crate) lengths: Option<Lengths>,
-    pub(crate) count: u32,
-    pub(crate) last: Option<S>,
-    pub(crate) best: Option<BestStretch>,
-    pub(crate) lamp: LampRing,
-    // The take is not too long, and the best stretch lies in it.
-    ghost few: { count ≤ longest_take },
-    ghost lies: { within best count ≡ true },
+    pub(crate) progress: Progress<S>,
 }

@@ -91,7 +91,7 @@ impl<S: Step, R: Reader, M: Row> Closed<S, R, M> {
     pub fn best(&self) -> Option<BestStretch>
         ensures { BestTold S.Step.sound R.Reader.memory M.Row.marks self.now.slot result }
     {
-        self.slot.best
+        self.slot.progress.best
     }
 
     // The last accepted step.

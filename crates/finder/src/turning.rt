@@ -1,6 +1,6 @@
 ghost use Rattle.std.specs.Prelude.{◌≡◌, ◌+◌, ◌-◌, ◌≤◌, max, pos, ◌+ℤ◌};
 ghost use Rattle.terms.specs.Limits.{longest_phrase, longest_figure, longest_take};
-ghost use Rattle.finder.specs.Turns.{ListenTold, Turned, Lifted, GapOf, mark_for};
+ghost use Rattle.finder.specs.Turns.{ListenTold, Turned, GapOf, mark_for};
 
 use crate::recent::Recent;
 use readers::reader::Reader;
@@ -32,8 +32,10 @@ pub(crate) fn turn<M: Row>(row: &mut M, recent: &mut Recent, step: u32, heard: H
 {
     row.push(mark_of(heard.wanted));
     if heard.wanted > 0 {
-        let age = recent.note(step, heard);
-        lift_oldest(row, age);
+        if let Some(age) = recent.note(step, heard) {
+            // Refused at an age past the row's end: the mark is gone then, and the row stays as it is.
+            let _ = row.lift(age);
+        }
     }
 }
 
@@ -42,15 +44,6 @@ fn mark_of(wanted: usize) -> Mark
     ensures { result ≡ mark_for wanted }
 {
     if wanted == 0 { Mark::Plus } else { Mark::Minus }
-}
-
-// Lifts the mark of an age, where there is one: at an age past the row's end the row refuses and stays as it is.
-fn lift_oldest<M: Row>(row: &mut M, age: Option<usize>)
-    ensures { Lifted (M.Row.marks row.old) age (M.Row.marks row.new) }
-{
-    if let Some(age) = age {
-        let _ = row.lift(age);
-    }
 }
 
 // The sum of `base` and a sum at or below zero.

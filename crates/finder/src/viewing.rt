@@ -13,14 +13,14 @@ impl<S: Step, R: Reader, M: Row> Slot<S, R, M> {
     pub(crate) fn lamp(&self) -> Option<(u32, u32)>
         ensures { LampTold S.Step.sound R.Reader.memory M.Row.marks self.now result }
     {
-        self.lamp.lamp()
+        self.progress.lamp.lamp()
     }
 
     // The last accepted step.
     pub(crate) fn last(&self) -> Option<S>
         ensures { LastTold S.Step.sound R.Reader.memory M.Row.marks self.now result }
     {
-        self.last
+        self.progress.last
     }
 
     // The best stretch as a part of the list, which has the steps of the take, and its place there.
@@ -29,10 +29,10 @@ impl<S: Step, R: Reader, M: Row> Slot<S, R, M> {
         ensures { ViewTold S.Step.sound R.Reader.memory M.Row.marks
             self.now list.now result }
     {
-        if list.len() != self.count as usize {
+        if list.len() != self.progress.count as usize {
             return Err(Refusal::OtherLength);
         }
-        let best = self.best.ok_or(Refusal::NoBest)?;
+        let best = self.progress.best.ok_or(Refusal::NoBest)?;
         let from = (best.start - 1) as usize;
         Ok((&list[from..best.end as usize], from))
     }

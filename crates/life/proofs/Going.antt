@@ -52,16 +52,16 @@ module _ {A : Type 0} (a n : ℕ) (ts bs : List A) (within : a + n ≤ length ts
       ap (λ z. take a ts ++ z) (append_assoc bs (drop (length bs) part) (drop n (drop a ts)) ∙ ap (λ z. bs ++ z) back)
       ∙ sym (append_assoc (take a ts) bs (drop (length bs) (drop a ts)))
 
-  pub written_front : take (a + length bs) written ≡ take a ts ++ bs
+  written_front : take (a + length bs) written ≡ take a ts ++ bs
   written_front =
       ap (take (a + length bs)) split
       ∙ take_at (take a ts ++ bs) (drop (length bs) (drop a ts)) (a + length bs) front_long
 
-  pub written_behind : drop (a + length bs) written ≡ drop (a + length bs) ts
+  written_behind : drop (a + length bs) written ≡ drop (a + length bs) ts
   written_behind = ap (drop (a + length bs)) split
       ∙ drop_at (take a ts ++ bs) (drop (length bs) (drop a ts)) (a + length bs) front_long ∙ drop-drop (length bs) a ts
 
-  pub written_long : length written ≡ length ts
+  written_long : length written ≡ length ts
   written_long =
       omega (
         arith,

@@ -10,7 +10,7 @@ use Rattle.life.specs.declared.calls.Call.TheVariants.{Clear}
 use Rattle.life.specs.declared.calls.Turned.TheVariants.{OutOfPlace}
 
 -- what call number i uses up is among what all of them do
-pub used_within : {S : Type 0} (ks : List (Call S)) (es : List Event) (i : ℕ) → i < length ks → length ks ≡ length es
+used_within : {S : Type 0} (ks : List (Call S)) (es : List Event) (i : ℕ) → i < length ks → length ks ≡ length es
     → records_used_lem (take i ks) (take i es) + used (given (get_or ks i Clear)) (get_or es i (Err OutOfPlace)) ≤ records_used_lem ks es
 unfolding records_used_lem
 used_within [] es i l h = absurd (omega arith)

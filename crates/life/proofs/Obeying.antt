@@ -8,7 +8,7 @@ use Rattle.terms.specs.Refusals.{run_refusal}
 use Rattle.terms.specs.declared.answer.Answer.{Answer}
 use Rattle.terms.specs.declared.answer.BestStretch.{BestStretch}
 use Rattle.terms.specs.declared.refusal.Refusal.{Refusal}
-use Rattle.finder.specs.History.{History, unloaded, ran, Answered, Played, none, BestOf}
+use Rattle.finder.specs.History.{History, ran, Answered, Played, none, BestOf}
 use Rattle.finder.specs.History as at
 use Rattle.life.specs.Readings.{Event, closing_of, history_of, closed_of, given, used, records_used_lem, done}
 use Rattle.life.specs.Outcomes.{Stage, rolling, closed, belongs, Outcome, load_accepted, load_refused, step_accepted}

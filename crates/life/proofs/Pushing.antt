@@ -58,7 +58,7 @@ module _ {S : Type 0} where
   unfolding history_by
   read_push ks k f = let e = last_push load_of ([], 0) ks k in λ i. record { phrase = (e i).0; q = (e i).1; take = f i }
 
-  pub done_push : (ks : List (Call S)) (k : Call S) → history_by (ks ++ (k ∷ [])) ≡ done (history_by ks) k
+  done_push : (ks : List (Call S)) (k : Call S) → history_by (ks ++ (k ∷ [])) ≡ done (history_by ks) k
   unfolding history_by
   done_push ks (Load p q) = read_push ks (Load p q) (begun ks (Load p q) refl)
   done_push ks (Step x) = read_push ks (Step x) (kept_on ks (Step x) refl)
@@ -68,7 +68,7 @@ module _ {S : Type 0} where
       read_push ks Close (kept_on ks Close refl ∙ append-nil (flat_map steps_of (after_last begins_take ks)))
   done_push ks Reopen = read_push ks Reopen (begun ks Reopen refl)
 
-  pub shut_push : (ks : List (Call S)) (k : Call S) → closed_by (ks ++ (k ∷ [])) ≡ unwrap_or (closing_of k) (closed_by ks)
+  shut_push : (ks : List (Call S)) (k : Call S) → closed_by (ks ++ (k ∷ [])) ≡ unwrap_or (closing_of k) (closed_by ks)
   unfolding closed_by
   shut_push ks k = last_push closing_of false ks k
 

@@ -41,7 +41,7 @@ shut_of (is.Rolling r) = false
 shut_of (is.Closed r) = true
 
 -- the list of records after a run
-pub run_after : (r : Result (Unit {0}) Refusal) (rs cs : List Answer) (P : Type 0)
+run_after : (r : Result (Unit {0}) Refusal) (rs cs : List Answer) (P : Type 0)
     → IfErr r (λ _. P × (cs ≡ rs)) → length cs ≡ length rs
     → cs ≡ run_records r cs ++ drop (length (run_records r cs)) rs
 run_after (Ok u) rs cs P k h =

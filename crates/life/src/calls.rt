@@ -13,7 +13,8 @@ use terms::refusal::Refusal;
 pub enum Call<'a, S> {
     Load(&'a [S], usize),
     Step(S),
-    // The steps, and the length of the list of records that the run is given.
+    // The steps, and the length of the list of records that the run is given: a number, since all runs write into one
+    // list.
     Run(&'a [S], usize),
     Clear,
     Close,

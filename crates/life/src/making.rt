@@ -21,33 +21,31 @@ fn on_rolling<S: Step, R: Reader, M: Row>(
         (R.Reader.reaches S.Step.SOUNDS) S.Step.SOUNDS
         (is.Rolling rolling) call.now records.old result records.new }
 {
-    match call {
-        Call::Load(phrase, q) => {
-            let res = rolling.load(phrase, *q);
-            let event = res.map(|()| Done::Loaded).map_err(Turned::Refused);
-            (Take::Rolling(rolling), event)
-        }
-        Call::Step(x) => {
-            let res = rolling.step(*x);
-            let event = res.map(Done::Answered).map_err(Turned::Refused);
-            (Take::Rolling(rolling), event)
-        }
-        Call::Run(steps, _) => {
-            let res = rolling.run(steps, records);
-            let event = res.map(|()| Done::Ran).map_err(Turned::Refused);
-            (Take::Rolling(rolling), event)
-        }
+    let event = match call {
+        Call::Load(phrase, q) => rolling
+            .load(phrase, *q)
+            .map(|()| Done::Loaded)
+            .map_err(Turned::Refused),
+        Call::Step(x) => rolling
+            .step(*x)
+            .map(Done::Answered)
+            .map_err(Turned::Refused),
+        Call::Run(steps, _) => rolling
+            .run(steps, records)
+            .map(|()| Done::Ran)
+            .map_err(Turned::Refused),
         Call::Clear => {
             rolling.clear();
-            (Take::Rolling(rolling), Ok(Done::Cleared))
+            Ok(Done::Cleared)
         }
         Call::Close => {
             let closed = rolling.close();
             let event = Ok(Done::Closed(closed.best()));
-            (Take::Closed(closed), event)
+            return (Take::Closed(closed), event);
         }
-        Call::Reopen => (Take::Rolling(rolling), Err(Turned::OutOfPlace)),
-    }
+        Call::Reopen => Err(Turned::OutOfPlace),
+    };
+    (Take::Rolling(rolling), event)
 }
 
 impl<S: Step, R: Reader, M: Row> Take<S, R, M> {

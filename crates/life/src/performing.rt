@@ -32,7 +32,8 @@ pub fn perform<S: Step, R: Reader, M: Row>(
         }
         let (next, event) = take.make(call, &mut records[recorded..recorded + given]);
         take = next;
-        // By index: of what `zip` would lend of `events`, or `get_mut` of `records`, a proof learns no element.
+        // By index: of a list written through `zip(events.iter_mut())` a proof learns nothing (through
+        // `iter_mut().enumerate()` it does), nor of what `records.get_mut(..)` lends.
         events[made] = event;
         recorded += call.records_used(event);
     }

@@ -3,8 +3,7 @@
 
 use listing::list::list;
 use sheets::read::reading_limit;
-use std::io;
-use std::io::{Read, Write};
+use std::io::{self, Read, Write};
 
 fn main(rt: HostRuntime) -> io::Result<()> {
     let heap = rt.alloc();

@@ -3,6 +3,7 @@ use Rattle.std.proofs.Common.{◌≡◌, ℕ, ◌<◌, ◌≤◌, List, [], ◌�
 use lib.ListN.{length-map}
 use Rattle.std.proofs.lemmas.List.{take_at, drop_at}
 use Rattle.std.specs.List.{flat_map}
+use Rattle.sheets.specs.Layout.{Written}
 
 -- the sounds of xs are those in done and then those of steps with the bytes rest
 pub record Left {S : Type 0} (bytes : S → List ℕ) (sound : S → ℕ) (rest done : List ℕ) (xs : List S) : Type 0 where
@@ -33,6 +34,9 @@ module _ {S : Type 0} {bytes : S → List ℕ} {w : ℕ} (sized : (x : S) → le
     module _ {sound : S → ℕ} {done : List ℕ} {xs : List S} (h : Left bytes sound all done xs) where
       p : Parted bytes front rest h.steps
       p = parted h.steps (h.are ∙ split)
+
+      pub one_written : Written bytes front
+      one_written = (p.first, p.is)
 
       pub one_fits : length done < length xs
       one_fits = omega (arith, ap length h.sounds, length-map xs sound, length-append done (map sound h.steps), ap (λ (s : List S). length (map sound s)) p.both)

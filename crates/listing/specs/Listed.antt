@@ -6,7 +6,9 @@ use Rattle.terms.specs.declared.answer.BestStretch.{BestStretch}
 use Rattle.terms.specs.Limits.{longest_phrase, longest_figure, longest_listed}
 use Rattle.terms.specs.Told.{Plays}
 use Rattle.sheets.specs.declared.fault.SheetRefusal.{SheetRefusal}
-use Rattle.sheets.specs.Layout.{Content, Allowed, sheet_of, sound_of}
+use Rattle.sheets.specs.declared.parts.Sheet.{Sheet}
+use Rattle.sheets.specs.Layout.{Content, Allowed, sheet_of, bytes_of, sound_of}
+use Rattle.sheets.specs.Shown.{part_of}
 use Rattle.sheets.specs.Shown as sheets
 use Rattle.listing.specs.declared.line.Line.{Line}
 use Rattle.listing.specs.declared.line.Line.TheVariants.{Step, Best, Refused}
@@ -62,3 +64,12 @@ pub record Playable {S : Type 0} (bytes : S → List ℕ) (q : ℕ) (ps ts : Lis
   pub phrase_bytes : flat_map bytes phrase ≡ ps
   pub played_bytes : flat_map bytes played ≡ ts
   pub limits : InLimits q (length phrase) (length played)
+
+-- the same of the parts of a sheet
+abbrev pub SheetPlayable : Sheet → Type 0
+SheetPlayable s = Playable (bytes_of s.kind) s.figure (part_of s.phrase).bytes.now (part_of s.played).bytes.now
+
+-- the lines of a sheet's take against its phrase
+abbrev pub SheetPlayed : Sheet → List Line → Type 0
+SheetPlayed s ls =
+    BytesPlayed (bytes_of s.kind) (sound_of s.kind) s.figure (part_of s.phrase).bytes.now (part_of s.played).bytes.now ls

@@ -30,7 +30,7 @@ impl Line {
                 "best",
                 &[b.gap as usize, b.start as usize, b.end as usize],
             ),
-            Line::Refused(e) => LineText::of("refused", &[e.cause.number().into(), e.place]),
+            Line::Refused(e) => LineText::refused(e.cause.number(), e.place),
         }
     }
 }

@@ -4,7 +4,7 @@ ghost use Rattle.listing.specs.declared.line.Line.TheVariants.{Refused};
 
 use crate::line::Line;
 use crate::made::Listing;
-use crate::playing::play_steps;
+use crate::playing::play_sheet;
 use arrayvec::ArrayVec;
 use sheets::fault::SheetRefusal;
 use sheets::read::read_sheet;
@@ -23,13 +23,9 @@ fn refused(e: SheetRefusal) -> Listing
 pub fn list(input: &[u8]) -> Listing
     ensures { Listed input.now (lines_of result) }
 {
+    // Both outcomes end in a listing, so there is no `?`; a match says it as plainly as `map_or_else`.
     match read_sheet(input) {
-        Ok(sheet) => play_steps(
-            sheet.kind,
-            sheet.figure,
-            sheet.phrase.part().bytes,
-            sheet.played.part().bytes,
-        ),
+        Ok(sheet) => play_sheet(sheet),
         Err(e) => refused(e),
     }
 }

@@ -1,5 +1,6 @@
-ghost use Rattle.std.specs.Prelude.{◌≡◌, ◌+◌, ◌*◌, ◌<◌, [], ◌∷◌, ◌++◌, length, decimal};
+ghost use Rattle.std.specs.Prelude.{◌≡◌, ◌+◌, ◌*◌, ◌<◌, [], ◌∷◌, ◌++◌, length, codes, decimal};
 ghost use Rattle.std.specs.List.{flat_map};
+ghost use Rattle.listing.specs.Lines.{spaced};
 ghost use Rattle.listing.specs.Texts.{text_of};
 
 use arrayvec::ArrayString;
@@ -27,6 +28,13 @@ impl LineText {
         }
         text.push('\n');
         LineText(text)
+    }
+
+    // The line of a refusal by its number, at a place.
+    pub fn refused(number: u8, place: usize) -> LineText
+        ensures { text_of result ≡ spaced (codes "refused" ∷ decimal number ∷ decimal place ∷ []) }
+    {
+        LineText::of("refused", &[number.into(), place])
     }
 
     pub fn as_bytes(&self) -> &[u8]

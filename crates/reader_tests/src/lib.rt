@@ -14,23 +14,24 @@ mod tests {
     use terms::limits::LONGEST_PHRASE;
     use terms::refusal::Refusal;
 
-    // The number of a refusal, 0 for an accepted load.
-    fn number(r: Result<(), Refusal>) -> u8 {
-        r.err().map_or(0, Refusal::number)
-    }
-
     // A new reader's answer to a load.
-    fn load<R: Reader>(rt: &impl Abort, phrase: &[u32], q: usize, c: u32, wanted: u8) {
+    fn load<R: Reader>(
+        rt: &impl Abort,
+        phrase: &[u32],
+        q: usize,
+        c: u32,
+        wanted: Result<(), Refusal>,
+    ) {
         let mut reader = R::new();
-        assert_eq!(rt; number(reader.load(phrase, q, c)), wanted);
+        assert_eq!(rt; reader.load(phrase, q, c), wanted);
     }
 
     // Both readers hear each sound of the take and answer as wanted; and again after a forgetting.
     fn play(rt: &impl Abort, phrase: &[u32], q: usize, c: u32, take: &[(u32, usize)]) {
         let mut states = StatesReader::new();
         let mut sliding = SlidingReader::new();
-        assert_eq!(rt; number(states.load(phrase, q, c)), 0);
-        assert_eq!(rt; number(sliding.load(phrase, q, c)), 0);
+        assert_eq!(rt; states.load(phrase, q, c), Ok(()));
+        assert_eq!(rt; sliding.load(phrase, q, c), Ok(()));
         for _again in 0..2 {
             for &(sound, wanted) in take {
                 assert_eq!(rt; states.hear(sound), wanted);
@@ -45,11 +46,11 @@ mod tests {
     }
 
     // A reader that holds a phrase refuses a load, and goes on as if there had been none.
-    fn refuse<R: Reader>(rt: &impl Abort, phrase: &[u32], q: usize, c: u32, wanted: u8) {
+    fn refuse<R: Reader>(rt: &impl Abort, phrase: &[u32], q: usize, c: u32, wanted: Refusal) {
         let mut reader = R::new();
-        assert_eq!(rt; number(reader.load(&[2, 0, 2, 0], 2, 4)), 0);
+        assert_eq!(rt; reader.load(&[2, 0, 2, 0], 2, 4), Ok(()));
         assert_eq!(rt; reader.hear(2), 0);
-        assert_eq!(rt; number(reader.load(phrase, q, c)), wanted);
+        assert_eq!(rt; reader.load(phrase, q, c), Err(wanted));
         assert_eq!(rt; reader.hear(0), 1);
         assert_eq!(rt; reader.count(1), 2);
     }
@@ -57,20 +58,20 @@ mod tests {
     fn refuse_all<R: Reader>(rt: &impl Abort) {
         let long: [u32; LONGEST_PHRASE + 1] = [1; LONGEST_PHRASE + 1];
         let fits = &long[..LONGEST_PHRASE];
-        let refused: [(&[u32], usize, u32, u8); 7] = [
-            (&[], 0, 0, 11),
-            (&long, 0, 0, 12),
-            (&[1, 2], 0, 0, 13),
-            (&[1, 2], 3, 0, 13),
-            (fits, 9, 0, 13),
-            (&[1, 2], 1, 0, 14),
-            (&[1, 4], 1, 4, 15),
+        let refused: [(&[u32], usize, u32, Refusal); 7] = [
+            (&[], 0, 0, Refusal::EmptyPhrase),
+            (&long, 0, 0, Refusal::LongPhrase),
+            (&[1, 2], 0, 0, Refusal::FigureLength),
+            (&[1, 2], 3, 0, Refusal::FigureLength),
+            (fits, 9, 0, Refusal::FigureLength),
+            (&[1, 2], 1, 0, Refusal::PastReach),
+            (&[1, 4], 1, 4, Refusal::UnknownSound),
         ];
         for (phrase, q, c, wanted) in refused {
             refuse::<R>(rt, phrase, q, c, wanted);
         }
-        load::<R>(rt, fits, 6, 4, 0);
-        load::<R>(rt, &[1, 2], 2, 4, 0);
+        load::<R>(rt, fits, 6, 4, Ok(()));
+        load::<R>(rt, &[1, 2], 2, 4, Ok(()));
     }
 
     // A reader without a phrase hears nothing.
@@ -160,21 +161,27 @@ mod tests {
 
     #[test]
     fn sliding_reaches_so_far(rt: HostRuntime) {
-        load::<SlidingReader>(&rt, &[0, 1, 2, 3, 0, 1, 2], 6, 4, 0);
-        load::<SlidingReader>(&rt, &[0, 1, 2, 3, 0, 1, 2], 7, 4, 14);
-        load::<StatesReader>(&rt, &[0, 1, 2, 3, 0, 1, 2], 7, 4, 0);
-        load::<StatesReader>(&rt, &[0, 1, 2, 3, 0, 1, 2], 8, 4, 13);
-        load::<SlidingReader>(&rt, &[0, 46, 2], 2, 47, 0);
-        load::<SlidingReader>(&rt, &[0, 46, 2], 3, 47, 14);
-        load::<StatesReader>(&rt, &[0, 46, 2], 3, 47, 0);
-        load::<SlidingReader>(&rt, &[65_535], 1, 65_536, 14);
-        load::<StatesReader>(&rt, &[65_535], 1, 65_536, 0);
+        load::<SlidingReader>(&rt, &[0, 1, 2, 3, 0, 1, 2], 6, 4, Ok(()));
+        load::<SlidingReader>(&rt, &[0, 1, 2, 3, 0, 1, 2], 7, 4, Err(Refusal::PastReach));
+        load::<StatesReader>(&rt, &[0, 1, 2, 3, 0, 1, 2], 7, 4, Ok(()));
+        load::<StatesReader>(
+            &rt,
+            &[0, 1, 2, 3, 0, 1, 2],
+            8,
+            4,
+            Err(Refusal::FigureLength),
+        );
+        load::<SlidingReader>(&rt, &[0, 46, 2], 2, 47, Ok(()));
+        load::<SlidingReader>(&rt, &[0, 46, 2], 3, 47, Err(Refusal::PastReach));
+        load::<StatesReader>(&rt, &[0, 46, 2], 3, 47, Ok(()));
+        load::<SlidingReader>(&rt, &[65_535], 1, 65_536, Err(Refusal::PastReach));
+        load::<StatesReader>(&rt, &[65_535], 1, 65_536, Ok(()));
     }
 
     fn repeat<R: Reader>(rt: &impl Abort) {
         let phrase: [u32; LONGEST_PHRASE] = [0; LONGEST_PHRASE];
         let mut reader = R::new();
-        assert_eq!(rt; number(reader.load(&phrase, 8, 1)), 0);
+        assert_eq!(rt; reader.load(&phrase, 8, 1), Ok(()));
         for _short in 0..7 {
             assert_eq!(rt; reader.hear(0), 0);
         }
@@ -201,13 +208,27 @@ mod tests {
     fn different_masks(rt: HostRuntime) {
         let phrase = masks();
         let mut reader = StatesReader::new();
-        assert_eq!(rt; number(reader.load(&phrase, 8, 65_536)), 0);
+        assert_eq!(rt; reader.load(&phrase, 8, 65_536), Ok(()));
         for (i, &mask) in phrase.iter().enumerate() {
             assert_eq!(rt; reader.hear(mask), i.saturating_sub(6));
         }
         assert_eq!(rt; reader.count(LONGEST_PHRASE - 7), 1);
         assert_eq!(rt; reader.count(LONGEST_PHRASE - 6), 0);
-        load::<SlidingReader>(&rt, &phrase, 8, 65_536, 14);
+        load::<SlidingReader>(&rt, &phrase, 8, 65_536, Err(Refusal::PastReach));
+    }
+
+    #[test]
+    fn refusals_have_numbers(rt: HostRuntime) {
+        let numbered = [
+            (Refusal::EmptyPhrase, 11),
+            (Refusal::LongPhrase, 12),
+            (Refusal::FigureLength, 13),
+            (Refusal::PastReach, 14),
+            (Refusal::UnknownSound, 15),
+        ];
+        for (refusal, number) in numbered {
+            assert_eq!(rt; refusal.number(), number);
+        }
     }
 
     #[test]

@@ -13,7 +13,7 @@ unfolding digits
 length_digits c zero n = refl
 length_digits c (suc k) n = length_push (digits c k (n / c)) (n % c) ∙ ap (λ v. v + 1) (length_digits c k (n / c)) ∙ add-one k
 
-pub digits_push : (c k n x : ℕ) → x < c → digits c (k + 1) (n * c + x) ≡ digits c k n ++ (x ∷ [])
+digits_push : (c k n x : ℕ) → x < c → digits c (k + 1) (n * c + x) ≡ digits c k n ++ (x ∷ [])
 unfolding digits
 digits_push c k n x h =
     ap (λ v. digits c v (n * c + x)) (add-one k) ∙ ap₂ (λ u v. digits c k u ++ (v ∷ [])) (div-mul-add n c x h) (mod-mul-add n c x h)
@@ -22,7 +22,7 @@ digits_step : (c k n : ℕ) → digits c (suc k) n ≡ digits c k (n / c) ++ (n 
 unfolding digits
 digits_step c k n = refl
 
-pub digits_mod : (c k n : ℕ) → 0 < c → digits c k (n % c ^ k) ≡ drop 1 (digits c (suc k) n)
+digits_mod : (c k n : ℕ) → 0 < c → digits c k (n % c ^ k) ≡ drop 1 (digits c (suc k) n)
 digits_mod c zero n h = unfold digits in refl
 digits_mod c (suc k) n h =
     let z : 0 < c ^ k = one-le-pow k c h in
@@ -44,7 +44,7 @@ digits_same c (suc k) n m z h g e =
     sym (div-add-mod' n c) ∙ ap₂ (λ u v. u * c + v) d s.1 ∙ div-add-mod' m c
 
 -- a digit more
-pub more_below : (a b c x : ℕ) → a < b → x < c → a * c + x < b * c
+more_below : (a b c x : ℕ) → a < b → x < c → a * c + x < b * c
 more_below a b c x h g =
     let m : (a + 1) * c ≤ b * c = mul-le-mul_right c (omega arith) in
     let e = add-mul a 1 c in

@@ -1,5 +1,5 @@
 -- The steps of the loop over the places of the phrase.
-use Rattle.std.proofs.Common.{◌≡◌, ℕ, ◌+◌, ◌-◌, ◌<◌, ◌≤◌, ◌≢◌, List, [], ◌∷◌, ◌++◌, length, get_or, take, drop, set, sym, refl, ap, ◌∙◌, subst, ap₂, inl, inr, arith}
+use Rattle.std.proofs.Common.{◌≡◌, ℕ, ◌+◌, ◌-◌, ◌<◌, ◌≤◌, ◌≢◌, List, [], ◌∷◌, ◌++◌, length, get_or, take, drop, set, sym, refl, ap, ◌∙◌, subst, ap₂, inl, inr, below_more, arith}
 use Rattle.std.proofs.lemmas.Bool.{cases_lt, cases_Bool}
 use Rattle.std.proofs.lemmas.List.{get_or-set_same, get_or-set_other, length-append, length_push, same_from_push, drop_at, take_at}
 use Rattle.terms.specs.Reading.{Run, is_run}
@@ -9,9 +9,6 @@ use Rattle.readers.specs.Table.{Node, Tree, Childless, Child, node, nodes, blank
 use Rattle.readers.specs.Grows.{Grown, up, grown_is, length_grown, uncoded_grown}
 use Rattle.readers.specs.Building.{run_more, run_tail, run_length, stands_grown, stands_new, complete_grown, runs_grown}
 
-below_next : (P : ℕ → Type 0) (a : ℕ) → ((b : ℕ) → b < a → P b) → P a → (b : ℕ) → b < a + 1 → P b
-below_next P a f x b h = elim (up a b h) [ inl k ↦ f b k | inr k ↦ subst P (sym k) x ]
-
 module _ (p : List ℕ) (l a n : ℕ) (N : ℕ → Node) (places : List ℕ) (t : Built p l a (l + 1) n N places) (in_phrase : a + l < length p) (in_places : a < length places)
     (x : ℕ) (sound_is : x ≡ get_or p (a + l) 0) where
   here : Stands p n N l a (get_or places a 0)
@@ -20,7 +17,7 @@ module _ (p : List ℕ) (l a n : ℕ) (N : ℕ → Node) (places : List ℕ) (t 
   others : (M : ℕ → Node) (m j : ℕ) → ((k b i : ℕ) → Stands p n N k b i → Stands p m M k b i) → Stands p m M (l + 1) a j
       → ((b : ℕ) → b < a + 1 → Stands p m M (l + 1) b (get_or (set places a j) b 0)) × ((b : ℕ) → a + 1 ≤ b → b + l ≤ length p → Stands p m M l b (get_or (set places a j) b 0))
   others M m j keep s = (
-    below_next (λ b. Stands p m M (l + 1) b (get_or (set places a j) b 0)) a
+    below_more (λ b. Stands p m M (l + 1) b (get_or (set places a j) b 0)) a
         (λ b h. let ne : b ≢ a = λ e. omega arith in
         subst (Stands p m M (l + 1) b) (sym (get_or-set_other places a b j 0 ne)) (keep (l + 1) b _ (t.done b h)))
         (subst (Stands p m M (l + 1) a) (sym (get_or-set_same places a j 0 in_places)) s),

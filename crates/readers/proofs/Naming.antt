@@ -6,12 +6,13 @@ use Rattle.std.proofs.lemmas.Grind.{common_steps}
 use Rattle.std.specs.List.{refill}
 use Rattle.arrayvec.proofs.ArrayVecLemmas.{items-with_items}
 use Rattle.terms.specs.Figures.{figures, different}
+use Rattle.terms.specs.Limits.{longest_phrase}
 use Rattle.terms.specs.Codes.{code, count_of, count_at, numbered}
 use Rattle.terms.proofs.Numbering.{different_new, different_old, code_next}
 use Rattle.terms.proofs.Coded.{code_found}
 use Rattle.terms.proofs.Counts.{count_append, count_same}
 use Rattle.readers.specs.declared.state.State.{State}
-use Rattle.readers.specs.Table.{Node, Tree, node, nodes, blank, with_code, run, Runs, Codes, Counts, CodeGiven, Numbered, Stands, Built, Uncoded}
+use Rattle.readers.specs.Table.{Node, Tree, node, nodes, blank, with_code, run, Runs, Codes, Counts, CodeGiven, Numbered, Stands, Built, Uncoded, most_places}
 use Rattle.readers.proofs.Coding.{code_old, code_other, unseen, seen, count_of_push, figure_at, code_small, count_of_small, different_small}
 
 with_code_at : (ss : List State) (j h k : ℕ) → j < length ss → nodes (set ss j (with_code (get_or ss j blank) h)) k ≡ nodes ss k
@@ -42,16 +43,16 @@ module _ (p : List ℕ) (ps : List (List ℕ)) (f : List ℕ) (n : ℕ) (ss : Li
   code_here : (get_or ss j blank).code ≡ code ps f
   code_here = c j jn ∙ ap (code ps) is
 
-  pub codes_old : ((get_or ss j blank).code ≡ 0 → ⊥) → Codes p (ps ++ (f ∷ [])) n ss
+  codes_old : ((get_or ss j blank).code ≡ 0 → ⊥) → Codes p (ps ++ (f ∷ [])) n ss
   codes_old z i h = c i h ∙ sym (code_old ps f _ (seen ps f (λ e. z (code_here ∙ e))))
 
-  pub count_old : ((get_or ss j blank).code ≡ 0 → ⊥) → length (different (ps ++ (f ∷ []))) ≡ length (different ps)
+  count_old : ((get_or ss j blank).code ≡ 0 → ⊥) → length (different (ps ++ (f ∷ []))) ≡ length (different ps)
   count_old z = ap length (different_old f ps (seen ps f (λ e. z (code_here ∙ e))))
 
-  pub count_new : (get_or ss j blank).code ≡ 0 → length (different (ps ++ (f ∷ []))) ≡ length (different ps) + 1
+  count_new : (get_or ss j blank).code ≡ 0 → length (different (ps ++ (f ∷ []))) ≡ length (different ps) + 1
   count_new z = ap length (different_new f ps (unseen ps f (sym code_here ∙ z))) ∙ length_push (different ps) f
 
-  pub codes_new : (h : ℕ) → j < length ss → Runs p n (nodes ss) → (get_or ss j blank).code ≡ 0 → h ≡ length (different ps) + 1 → Codes p (ps ++ (f ∷ [])) n (set ss j (with_code (get_or ss j blank) h))
+  codes_new : (h : ℕ) → j < length ss → Runs p n (nodes ss) → (get_or ss j blank).code ≡ 0 → h ≡ length (different ps) + 1 → Codes p (ps ++ (f ∷ [])) n (set ss j (with_code (get_or ss j blank) h))
   codes_new h l r z e i k = elim (cases_eq i j) [
     | inl d ↦
         ap (λ v. (get_or (set ss j (with_code (get_or ss j blank) h)) v blank).code) d ∙ ap (λ (v : State). v.code) (get_or-set_same ss j (with_code (get_or ss j blank) h) blank l) ∙ e
@@ -61,7 +62,7 @@ module _ (p : List ℕ) (ps : List (List ℕ)) (f : List ℕ) (n : ℕ) (ss : Li
         ∙ sym (code_other ps f (run p (nodes ss i)) (λ u. d (r.apart i j k jn (u ∙ sym is)))) ∙ ap (λ v. code (ps ++ (f ∷ [])) (run p v)) (sym (with_code_at ss j h i l))
   ]
 
-pub code_some : (ps : List (List ℕ)) (f : List ℕ) → 1 ≤ code (ps ++ (f ∷ [])) f
+code_some : (ps : List (List ℕ)) (f : List ℕ) → 1 ≤ code (ps ++ (f ∷ [])) f
 code_some ps f =
     let a = count_append f ps (f ∷ []) in
     let b = count_same f [] in
@@ -93,7 +94,7 @@ counts_step ps f counts c k e l h = elim (cases_lt 0 h) [
 ]
 
 module _ (p : List ℕ) (ps : List (List ℕ)) (f : List ℕ) (n : ℕ) (N : ℕ → Node) (r : Runs p n N) where
-  pub numbered_step : (ss ss' : List State) (j codes codes' : ℕ) → j < n → run p (N j) ≡ f → Numbered p ps n N ss codes → CodeGiven j codes ss ss' codes'
+  numbered_step : (ss ss' : List State) (j codes codes' : ℕ) → j < n → run p (N j) ≡ f → Numbered p ps n N ss codes → CodeGiven j codes ss ss' codes'
       → Numbered p (ps ++ (f ∷ [])) n N ss' codes' × ((get_or ss' j blank).code ≡ code (ps ++ (f ∷ [])) f)
   numbered_step ss ss' j codes codes' jn e b m = elim (cases_eq (get_or ss j blank).code 0) [
     | inl z ↦
@@ -123,41 +124,7 @@ module _ (p : List ℕ) (ps : List (List ℕ)) (f : List ℕ) (n : ℕ) (N : ℕ
       out : Numbered p (ps ++ (f ∷ [])) n N ss' codes' → Numbered p (ps ++ (f ∷ [])) n N ss' codes' × ((get_or ss' j blank).code ≡ code (ps ++ (f ∷ [])) f)
       out d = (d, d.each j jn ∙ ap (code (ps ++ (f ∷ []))) (ap (λ (M : ℕ → Node). run p (M j)) d.same ∙ e))
 
--- a place where a figure begins, and the state that stands there
-module _ (p : List ℕ) (q n : ℕ) (N : ℕ → Node) (places : List ℕ) (b : Built p q 0 q n N places) (a : ℕ) (h : a < length (take (length p + 1 - q) places)) where
-  pub within : a + q ≤ length p
-  within = let l = length-take (length p + 1 - q) places in omega arith
-
-  pub standing : Stands p n N q a (get_or (take (length p + 1 - q) places) a 0)
-  standing =
-      let w = within in
-      let is : get_or (take (length p + 1 - q) places) a 0 ≡ get_or places a 0 = grind (arith, common_steps) in
-      subst (Stands p n N q a) (sym is) (b.todo a (omega arith) w)
-
--- one turn of the loop over the places: the state j that stands at the place a, and its code h
-module _ (p : List ℕ) (q a n : ℕ) (N : ℕ → Node) (j : ℕ) (r : Runs p n N) (t : Stands p n N q a j) (some : 1 ≤ q) (inside : a + q ≤ length p)
-    (ss ss' : List State) (codes codes' : ℕ) (k : Numbered p (take a (figures q p)) n N ss codes) (m : CodeGiven j codes ss ss' codes')
-    (h : ℕ) (is : h ≡ (get_or ss' j blank).code) where
-  both : Numbered p (take a (figures q p) ++ (take q (drop a p) ∷ [])) n N ss' codes' × ((get_or ss' j blank).code ≡ code (take a (figures q p) ++ (take q (drop a p) ∷ [])) (take q (drop a p)))
-  both = numbered_step p (take a (figures q p)) (take q (drop a p)) n N r ss ss' j codes codes' t.in_table t.run_is k m
-
-  pub turn : Numbered p (take (a + 1) (figures q p)) n N ss' codes'
-  turn = subst (λ v. Numbered p v n N ss' codes') (sym (figure_at q p a some inside)) both.0
-
-  pub turn_small : h ≤ a + 1
-  turn_small =
-      let c = both.1 in
-      let d = code_small (take a (figures q p) ++ (take q (drop a p) ∷ [])) (take q (drop a p)) in
-      let e = length_push (take a (figures q p)) (take q (drop a p)) in
-      let g = length-take a (figures q p) in
-      omega arith
-
-  pub turn_counts : (counts : List ℕ) → Counts (take a (figures q p)) counts → h < length counts → Counts (take (a + 1) (figures q p)) (set counts h (get_or counts h 0 + 1))
-  turn_counts counts c l =
-      subst (λ v. Counts v (set counts h (get_or counts h 0 + 1))) (sym (figure_at q p a some inside))
-      (counts_step (take a (figures q p)) (take q (drop a p)) counts h c (is ∙ both.1) l)
-
-pub few_codes : (p : List ℕ) (q a n : ℕ) (N : ℕ → Node) (ss : List State) (codes : ℕ) → Numbered p (take a (figures q p)) n N ss codes → codes ≤ a
+few_codes : (p : List ℕ) (q a n : ℕ) (N : ℕ → Node) (ss : List State) (codes : ℕ) → Numbered p (take a (figures q p)) n N ss codes → codes ≤ a
 few_codes p q a n N ss codes k =
     let c = k.many in
     let d = different_small (take a (figures q p)) in
@@ -170,6 +137,68 @@ few_counts p q a counts h c =
     let d = count_of_small (take a (figures q p)) h in
     let g = length-take a (figures q p) in
     omega arith
+
+-- the figure at the place a is numbered, its code g is counted, and there is room for it
+pub record Turned (p : List ℕ) (q a n : ℕ) (N : ℕ → Node) (ss' : List State) (codes' : ℕ) (counts : List ℕ) (g : ℕ) : Type 0 where
+  pub small : g < most_places
+  pub few : get_or counts g 0 ≤ longest_phrase
+  pub numbered : Numbered p (take (a + 1) (figures q p)) n N ss' codes'
+  pub counted : Counts (take (a + 1) (figures q p)) (set counts g (get_or counts g 0 + 1))
+
+-- a place where a figure begins, and the state that stands there; the figures before it are numbered
+module _ (p : List ℕ) (q n : ℕ) (N : ℕ → Node) (places : List ℕ) (b : Built p q 0 q n N places) (fits : length p ≤ longest_phrase) (a : ℕ) (h : a < length (take (length p + 1 - q) places))
+    (ss : List State) (codes : ℕ) (k : Numbered p (take a (figures q p)) n N ss codes) where
+  abbrev j : ℕ
+  j = get_or (take (length p + 1 - q) places) a 0
+
+  within : a + q ≤ length p
+  within = let l = length-take (length p + 1 - q) places in omega arith
+
+  standing : Stands p n N q a j
+  standing =
+      let w = within in
+      let is : j ≡ get_or places a 0 = grind (arith, common_steps) in
+      subst (Stands p n N q a) (sym is) (b.todo a (omega arith) w)
+
+  pub room_to_give : (j < length ss) × (codes ≤ longest_phrase)
+  room_to_give =
+      let w = within in
+      let l = standing.in_table in
+      let m = k.as_many in
+      let e = few_codes p q a n N ss codes k in
+      (omega arith, omega arith)
+
+  -- one turn of the loop over the places: the state has a code now, g
+  module _ (some : 1 ≤ q) (ss' : List State) (codes' : ℕ) (m : CodeGiven j codes ss ss' codes') (g : ℕ) (is : g ≡ (get_or ss' j blank).code) where
+    abbrev done : List (List ℕ)
+    done = take a (figures q p)
+
+    abbrev figure : List ℕ
+    figure = take q (drop a p)
+
+    both : Numbered p (done ++ (figure ∷ [])) n N ss' codes' × ((get_or ss' j blank).code ≡ code (done ++ (figure ∷ [])) figure)
+    both = numbered_step p done figure n N b.runs ss ss' j codes codes' standing.in_table standing.run_is k m
+
+    small : g < most_places
+    small =
+        let w = within in
+        let c = both.1 in
+        let d = code_small (done ++ (figure ∷ [])) figure in
+        let e = length_push done figure in
+        let l = length-take a (figures q p) in
+        omega arith
+
+    pub turn : (counts : List ℕ) → length counts ≡ most_places → Counts done counts → Turned p q a n N ss' codes' counts g
+    turn counts l c =
+        let e : done ++ (figure ∷ []) ≡ take (a + 1) (figures q p) = sym (figure_at q p a some within) in
+        let s = small in
+        let w = within in
+        record {
+          small = s;
+          few = let f = few_counts p q a counts g c in omega arith;
+          numbered = subst (λ v. Numbered p v n N ss' codes') e both.0;
+          counted = subst (λ v. Counts v (set counts g (get_or counts g 0 + 1))) e (counts_step done figure counts g c (is ∙ both.1) (omega arith));
+        }
 
 pub numbered_start : (p : List ℕ) (ss : List State) → Uncoded ss → Numbered p [] (length ss) (nodes ss) ss 0
 unfolding code numbered different

@@ -27,11 +27,11 @@ use Rattle.terms.proofs.Counts.{count_nil}
 use Rattle.terms.specs.Limits.{longest_phrase, most_numbers}
 
 -- a sound of a phrase whose sounds are all below c
-pub sound_below : (c : ℕ) (xs : List ℕ) (x : ℕ) (ys : List ℕ) → all_below_lem c (xs ++ (x ∷ ys)) ≡ true → x < c
+sound_below : (c : ℕ) (xs : List ℕ) (x : ℕ) (ys : List ℕ) → all_below_lem c (xs ++ (x ∷ ys)) ≡ true → x < c
 sound_below c [] x ys e = ltb-true x c (and_parts (ltb x c) (all_below_lem c ys) e).0
 sound_below c (y ∷ xs) x ys e = sound_below c xs x ys (and_parts (ltb y c) (all_below_lem c (xs ++ (x ∷ ys))) e).1
 
-pub place_below : (c : ℕ) (xs : List ℕ) (i : ℕ) → all_below_lem c xs ≡ true → i < length xs → get_or xs i 0 < c
+place_below : (c : ℕ) (xs : List ℕ) (i : ℕ) → all_below_lem c xs ≡ true → i < length xs → get_or xs i 0 < c
 place_below c [] i e h = absurd (omega arith)
 place_below c (x ∷ xs) zero e h = ltb-true x c (and_parts (ltb x c) (all_below_lem c xs) e).0
 place_below c (x ∷ xs) (suc i) e h = place_below c xs i (and_parts (ltb x c) (all_below_lem c xs) e).1 (omega arith)
@@ -107,12 +107,12 @@ newest_push w t x =
     let z : k + (length (drop k (t ++ (x ∷ []))) - w) ≡ length (t ++ (x ∷ [])) - w = omega arith in
     ap (newest w) b ∙ drop-drop (length (drop k (t ++ (x ∷ []))) - w) k (t ++ (x ∷ [])) ∙ ap (λ v. drop v (t ++ (x ∷ []))) z
 
-pub slid_phrase : (c w : ℕ) (p : List ℕ) (i : ℕ) → all_below_lem c p ≡ true → i < length p → slid c w (newest w (take i p)) (get_or p i 0) ≡ newest w (take (i + 1) p)
+slid_phrase : (c w : ℕ) (p : List ℕ) (i : ℕ) → all_below_lem c p ≡ true → i < length p → slid c w (newest w (take i p)) (get_or p i 0) ≡ newest w (take (i + 1) p)
 slid_phrase c w p i all h =
     let e : slid c w (newest w (take i p)) (get_or p i 0) ≡ newest w (newest w (take i p) ++ (get_or p i 0 ∷ [])) = rw (lt-ltb (get_or p i 0) c (place_below c p i all h)) in
     e ∙ newest_push w (take i p) (get_or p i 0) ∙ ap (newest w) (sym (take_more p i 0 h))
 
-pub newest_figure : (w : ℕ) (p : List ℕ) (a : ℕ) → a + w ≤ length p → newest w (take (a + w) p) ≡ take w (drop a p)
+newest_figure : (w : ℕ) (p : List ℕ) (a : ℕ) → a + w ≤ length p → newest w (take (a + w) p) ≡ take w (drop a p)
 newest_figure w p a h =
     let l = length-take (a + w) p in
     let z : length (take (a + w) p) - w ≡ a = omega arith in
@@ -135,7 +135,7 @@ module _ (c q : ℕ) (ps : List (List ℕ)) (f : List ℕ) (codes : List ℕ) (n
         get_or-set_other codes n i h 0 d ∙ t i b ∙ sym (code_other ps f (digits c q i) (λ u. d (digits_same c q i n z b nb (u ∙ sym is))))
   ]
 
-  pub tabled_step : (codes' : List ℕ) (next next' : ℕ) → n < length codes → next ≡ length (different ps) → Entered n next codes codes' next'
+  tabled_step : (codes' : List ℕ) (next next' : ℕ) → n < length codes → next ≡ length (different ps) → Entered n next codes codes' next'
       → Tabled c q (ps ++ (f ∷ [])) codes' × (next' ≡ length (different (ps ++ (f ∷ []))))
   tabled_step codes' next next' l e m = elim (cases_eq (get_or codes n 0) 0) [
     | inl k ↦
@@ -224,7 +224,7 @@ module _ (p : List ℕ) (i : ℕ) (w w' : Window) (k : Coder) (t : Tally) (r : R
 
   -- it is full, and shows the number n
   module _ (n : ℕ) (nb : n < c ^ q) (is : digits c q n ≡ shown w') where
-    pub number_small : n < most_numbers
+    number_small : n < most_numbers
     number_small = let s = w'.scale.small in omega arith
 
     whole : q ≤ i + 1

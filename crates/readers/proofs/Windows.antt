@@ -1,9 +1,10 @@
 -- A window slides, and what a sliding reader then means.
-use Rattle.std.proofs.Common.{◌≡◌, ℕ, ◌+◌, ◌*◌, ◌%◌, ◌^◌, ◌<◌, ◌≤◌, ◌==◌, min, List, [], ◌∷◌, ◌++◌, length, get_or, Some, None, Option, sym, ap, ◌∙◌, subst, inl, inr, arith}
+use Rattle.std.proofs.Common.{◌≡◌, ℕ, ◌+◌, ◌*◌, ◌%◌, ◌^◌, ◌<◌, ◌==◌, min, List, [], ◌∷◌, ◌++◌, length, get_or, Some, None, Option, refl, sym, ap, ◌∙◌, subst, inl, inr, arith}
 use Rattle.std.specs.Bool.{then_some}
 use Rattle.std.proofs.lemmas.Bool.{cases_lt, cases_eq, eq-eqb, ne_eqb}
 use Rattle.terms.specs.Figures.{figures}
 use Rattle.terms.specs.Codes.{code}
+use Rattle.terms.specs.Limits.{most_numbers}
 use Rattle.terms.specs.Reading.{LongestEnd, remembered, answered}
 use Rattle.terms.proofs.Reading.{every_reader_lem}
 use Rattle.readers.specs.declared.scale.Scale.{Scale}
@@ -16,6 +17,14 @@ use Rattle.readers.specs.Slides.{Slides}
 use Rattle.readers.specs.Sliding.{shown}
 use Rattle.readers.proofs.Digits.{length_digits, fits, below_more, slid_more, slid_full}
 use Rattle.readers.proofs.Slidings.{nothing_heard, slid_remembered, answer_short, answer_full}
+
+-- with one sound more the number fits the table
+pub number_fits : (w : Window) (x : ℕ) → x < w.scale.base → w.number % w.scale.power * w.scale.base + x < most_numbers
+number_fits w x d =
+    let s = w.scale in
+    let f = fits s.base s.width s.power w.number x s.based s.wide s.powered d in
+    let l = s.small in
+    omega arith
 
 -- a sound below the base slides in: a digit more, or the newest digits
 module _ (w : Window) (x h : ℕ) (d : x < w.scale.base) (e : h ≡ min (w.heard + 1) w.scale.width) where
@@ -45,16 +54,20 @@ module _ (w : Window) (x h : ℕ) (d : x < w.scale.base) (e : h ≡ min (w.heard
             rw g (slid_full s.base s.width s.power w.number w.heard x s.based s.wide f m s.powered d)
       ]
 
--- a window of h sounds answers its number where it is full
-pub filled_by : (c w h n : ℕ) (r : Option ℕ) → h ≤ w → n < c ^ h → r ≡ then_some (h == w) n → Filled c w (digits c h n) r
-filled_by c w h n r l b e = elim (cases_eq h w) [
-  | inl f ↦
-      let g : r ≡ Some n = e ∙ ap (λ v. then_some v n) (eq-eqb h w f) in
-      subst (Filled c w (digits c h n)) (sym g) (subst (λ v. n < c ^ v) f b, ap (λ v. digits c v n) (sym f))
-  | inr f ↦
-      let g : r ≡ None = e ∙ ap (λ v. then_some v n) (ne_eqb h w f) in
-      subst (Filled c w (digits c h n)) (sym g) (let d = length_digits c h n in omega arith)
-]
+  -- it answers its number where it is full
+  pub filled_on : (r : Option ℕ) → r ≡ then_some (h == w.scale.width) (w.number % w.scale.power * w.scale.base + x)
+      → Filled w.scale.base w.scale.width (digits w.scale.base h (w.number % w.scale.power * w.scale.base + x)) r
+  filled_on r i =
+      let c = w.scale.base in
+      let n = w.number % w.scale.power * c + x in
+      elim (cases_eq h w.scale.width) [
+        | inl f ↦
+            let g : r ≡ Some n = i ∙ ap (λ v. then_some v n) (eq-eqb h w.scale.width f) in
+            subst (Filled c w.scale.width (digits c h n)) (sym g) (subst (λ v. n < c ^ v) f below_on, ap (λ v. digits c v n) (sym f))
+        | inr f ↦
+            let g : r ≡ None = i ∙ ap (λ v. then_some v n) (ne_eqb h w.scale.width f) in
+            subst (Filled c w.scale.width (digits c h n)) (sym g) (let d = length_digits c h n in omega arith)
+      ]
 
 module _ (p : List ℕ) (k : Coder) (t : Tally) (w w' : Window) (x : ℕ) (s : Slides p w.scale k t) (es : w'.scale ≡ w.scale)
     (ed : shown w' ≡ slid w.scale.base w.scale.width (shown w) x) where
@@ -73,17 +86,23 @@ module _ (p : List ℕ) (k : Coder) (t : Tally) (w w' : Window) (x : ℕ) (s : S
       subst (λ v. Hears (held p w.scale.width (remembered w.scale.width p (shown w))) x (held p v (remembered v p (shown w'))) a) (sym f)
       (with_phrase l (subst (λ v. a ≡ answered v p (remembered v p (shown w'))) f e))
 
-  pub hears_short : length (shown w') < w'.scale.width
+  hears_short : length (shown w') < w'.scale.width
       → Hears (held p w.scale.width (remembered w.scale.width p (shown w))) x (held p w'.scale.width (remembered w'.scale.width p (shown w'))) 0
   hears_short h = hears_slid 0 (answer_short w'.scale.width p (shown w') h)
 
-  pub hears_full : (n : ℕ) → n < w'.scale.base ^ w'.scale.width → digits w'.scale.base w'.scale.width n ≡ shown w'
+  hears_full : (n : ℕ) → n < w'.scale.base ^ w'.scale.width → digits w'.scale.base w'.scale.width n ≡ shown w'
       → Hears (held p w.scale.width (remembered w.scale.width p (shown w))) x (held p w'.scale.width (remembered w'.scale.width p (shown w'))) (get_or k.codes n 0)
   hears_full n b d =
       let q = w'.scale.width in
       let l = length_digits w'.scale.base q n in
       let m = ap length d in
       hears_slid (get_or k.codes n 0) (slides_on.tabled n b ∙ ap (code (figures q p)) d ∙ answer_full q p (shown w') (omega arith))
+
+  -- the answer is the code of a full window's number, or 0
+  pub hears_on : (r : Option ℕ) (a : ℕ) → Filled w'.scale.base w'.scale.width (shown w') r → (r ≡ None → a ≡ 0) → ((n : ℕ) → r ≡ Some n → a ≡ get_or k.codes n 0)
+      → Hears (held p w.scale.width (remembered w.scale.width p (shown w))) x (held p w'.scale.width (remembered w'.scale.width p (shown w'))) a
+  hears_on None a h e f = rw (e refl) (hears_short h)
+  hears_on (Some n) a h e f = rw (f n refl) (hears_full n h.0 h.1)
 
 -- an empty window remembers nothing
 pub memory_empty : (p : List ℕ) (s : Scale) (w : Window) → w.scale ≡ s → shown w ≡ [] → held p w.scale.width (remembered w.scale.width p (shown w)) ≡ held p s.width []

@@ -36,7 +36,7 @@ part_run p a l = record {
 
 module _ (p : List ℕ) (q here : ℕ) (ss : List State) (counts : List ℕ) (k : Keeps p q here ss counts) where
   -- the root is the empty run
-  pub root_run : run p (nodes ss 0) ≡ []
+  root_run : run p (nodes ss 0) ≡ []
   root_run = ap (λ v. take v (drop (nodes ss 0).at p)) k.runs.root
 
   pub follow_child : (at x j : ℕ) → Child (length ss) (nodes ss) at x j → run p (nodes ss j) ≡ remembered q p (run p (nodes ss at) ++ (x ∷ []))
@@ -69,10 +69,6 @@ module _ (p : List ℕ) (q here : ℕ) (ss : List State) (counts : List ℕ) (k 
       let no = not_longer at x h c in
       let no' : Run (x ∷ []) p → length (x ∷ []) ≤ q → ⊥ = subst (λ v. Run (v ++ (x ∷ [])) p → length (v ++ (x ∷ [])) ≤ q → ⊥) f no in
       e ∙ sym (none q p x (λ u. no' u s)) ∙ ap (λ v. remembered q p (v ++ (x ∷ []))) (sym f)
-
-  -- the reader stands at another state
-  pub at_state : (j : ℕ) → j < length ss → Keeps p q j ss counts
-  at_state j h = record { some = k.some; inside = h; runs = k.runs; short = k.short; complete = k.complete; codes = k.codes; counted = k.counted }
 
   -- a state is a run of the phrase, at most q long
   pub whole_state : (length (run p (nodes ss here)) ≤ q) × Run (run p (nodes ss here)) p

@@ -89,6 +89,19 @@ with_child s j = record {
   next = s.next;
 }
 
+-- a state without children, before the older child k of its parent
+abbrev pub newest_child : State → ℕ → State
+newest_child s k = record {
+  at = s.at;
+  len = s.len;
+  sound = s.sound;
+  code = s.code;
+  parent = s.parent;
+  shorter = s.shorter;
+  child = 0;
+  next = k;
+}
+
 -- a table with one state more, a child of the state i
 abbrev pub grown : List State → ℕ → State → List State
 grown ss i s = slice_set ss i (with_child (slice_index_or ss i blank) (length ss)) ++ (s ∷ [])

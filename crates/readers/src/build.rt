@@ -3,11 +3,13 @@ ghost use Rattle.terms.specs.Limits.{longest_phrase, longest_figure};
 ghost use Rattle.readers.specs.Table.{most_places, nodes, Built, EachRunOnce, Uncoded};
 ghost use Rattle.readers.specs.Props.{built_prop};
 
+use crate::state::State;
 use crate::table::Table;
 use crate::tally::MOST_PLACES;
 
 // The table of all runs of up to `len` sounds of a phrase, each once and yet without a code. `places` has for each
-// place of the phrase the state of the longest of them that stands there.
+// place of the phrase the state of the longest of them that stands there; it is as long as the longest phrase asks,
+// since the memory is fixed.
 #[derive(Drop)]
 pub(crate) struct Unnumbered<'a> {
     pub(crate) phrase: &'a [u32],
@@ -36,10 +38,18 @@ impl<'a> Unnumbered<'a> {
         let mut places = [0; MOST_PLACES];
         for len in 0..longest {
             for (at, &sound) in phrase[len..].iter().enumerate() {
+                // By place: a place is rewritten while the next one is still read.
                 let from = places[at];
                 places[at] = match table.find(from, sound) {
                     Some(state) => state,
-                    None => table.add(from, at, len + 1, sound, places[at + 1]),
+                    None => table.add(State {
+                        at,
+                        len: len + 1,
+                        sound,
+                        parent: from,
+                        shorter: places[at + 1],
+                        ..State::default()
+                    }),
                 };
             }
         }

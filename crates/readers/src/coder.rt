@@ -23,6 +23,14 @@ impl Coder {
         }
     }
 
+    // The code of a number, 0 where it was given none.
+    pub(crate) fn known(&self, number: usize) -> usize
+        requires { number < most_numbers }
+        ensures { result ≡ slice_index self.now.codes number }
+    {
+        self.codes[number]
+    }
+
     // The code of a number: the next one, where it has none yet.
     pub(crate) fn code(&mut self, number: usize) -> usize
         requires inside { number < most_numbers }

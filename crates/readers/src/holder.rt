@@ -8,7 +8,8 @@ use crate::reader::Reader;
 use terms::refusal::Refusal;
 
 // What a reader does with a phrase that it holds. The clauses are those of a reader; no call has to ask whether there is
-// a phrase.
+// a phrase. A reader may hold nothing, and a keeper cannot: one trait for both would lose that. The module is private,
+// so that no one else makes a keeper.
 pub trait Keeper: Sized + Drop {
     ghost memory: { Self → Memory };
 
@@ -75,6 +76,7 @@ impl<K: Keeper> Reader for Holder<K> {
 
     #[tactic(auto, using(crate::specs::Memory::without_phrase_lem))]
     fn hear(&mut self, sound: u32) -> usize {
+        // Not `as_mut().map_or`: what its closure writes is told in names of the prover's own, so the proof does not close.
         let Some(kept) = &mut self.kept else {
             return 0;
         };

@@ -2,7 +2,7 @@ ghost use Rattle.std.specs.Prelude.{◌≡◌, true, false};
 ghost use Rattle.terms.specs.Refusals.{all_below_lem};
 ghost use Rattle.readers.specs.Judging.{Judged};
 
-use terms::limits::{LONGEST_FIGURE, LONGEST_PHRASE};
+use terms::checks::check_phrase;
 use terms::refusal::Refusal;
 
 // Whether every sound is below `c`.
@@ -16,16 +16,7 @@ fn all_below(phrase: &[u32], c: u32) -> bool
 pub(crate) fn judge(phrase: &[u32], q: usize, c: u32, reach: usize) -> Result<(), Refusal>
     ensures { Judged reach phrase.now q c result }
 {
-    let sounds = phrase.len();
-    if sounds == 0 {
-        return Err(Refusal::EmptyPhrase);
-    }
-    if sounds > LONGEST_PHRASE {
-        return Err(Refusal::LongPhrase);
-    }
-    if q == 0 || q > sounds || q > LONGEST_FIGURE {
-        return Err(Refusal::FigureLength);
-    }
+    check_phrase(phrase.len(), q)?;
     if q > reach {
         return Err(Refusal::PastReach);
     }

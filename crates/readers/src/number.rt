@@ -1,6 +1,6 @@
 ghost use Rattle.std.specs.Prelude.{◌≡◌, ℕ, ◌+◌, ◌<◌, ◌≤◌, length, slice_index_or, slice_set};
 ghost use Rattle.terms.specs.Limits.{longest_phrase};
-ghost use Rattle.readers.specs.Table.{blank, with_code, CodeGiven};
+ghost use Rattle.readers.specs.Table.{blank, nodes, with_code, CodeGiven};
 ghost use Rattle.readers.specs.States.{Keeps};
 
 use crate::build::Unnumbered;
@@ -8,6 +8,7 @@ use crate::table::Table;
 use crate::tally::Tally;
 
 impl Table {
+    #[tactic(auto, using(crate::proofs::Naming::coded_tree))]
     fn set_code(&mut self, state: usize, code: usize)
         requires { state < length self.old.states.items }
         ensures { self.new.states.items
@@ -16,7 +17,8 @@ impl Table {
         self.states[state].code = code;
     }
 
-    // Gives a state the next code, unless it has one, and answers how many codes there are then.
+    // Gives a state the next code, unless it has one, and answers how many codes there are then. The counter goes in
+    // and out: written into the loop below, it asks three answers more of the proof.
     fn give_code(&mut self, state: usize, codes: usize) -> usize
         requires inside { state < length self.old.states.items }
         requires few { codes ≤ longest_phrase }
@@ -35,7 +37,9 @@ impl Unnumbered<'_> {
     // phrase.
     pub(crate) fn number(self) -> (Table, Tally)
         requires { 1 ≤ self.len }
-        ensures { Keeps self.entry.phrase.now self.entry.len 0 result.0.states.items result.1.counts }
+        ensures keeps { Keeps self.entry.phrase.now self.entry.len 0 result.0.states.items result.1.counts }
+        ensures count { length result.0.states.items ≡ length self.entry.table.states.items }
+        ensures same { nodes result.0.states.items ≡ nodes self.entry.table.states.items }
     {
         let Unnumbered {
             phrase,

@@ -20,11 +20,13 @@ pub trait Reader: Sized + Drop {
     fn reach(c: u32) -> usize
         ensures { result ≡ reaches c };
 
-    // Takes a phrase as sound numbers, the figure length and the count of sounds.
+    // Takes a phrase as sound numbers, the figure length and the count of sounds. A struct of the three would stand for
+    // what is not judged yet, and each call would take it apart.
     fn load(&mut self, phrase: &[u32], q: usize, c: u32) -> Result<(), Refusal>
         ensures { LoadTold memory (reaches c) self.old phrase.now q c result self.new };
 
-    // Hears a sound, and answers the code of the remembered end where that is q long, else 0.
+    // Hears a sound, and answers the code of the remembered end where that is q long, else 0: 0 is the code of no
+    // figure, for every reader.
     fn hear(&mut self, sound: u32) -> usize
         ensures { Hears (memory self.old) sound (memory self.new) result };
 

@@ -95,15 +95,15 @@ impl Keeper for Slider {
         widest_figure(c)
     }
 
+    #[tactic(auto, using(crate::proofs::Accepted::accepted, crate::specs::Widest::reached))]
     fn new(phrase: &[u32], q: usize, c: u32) -> Slider {
         Slider::read(phrase, Scale::new(c as usize, q))
     }
 
     fn hear(&mut self, sound: u32) -> usize {
-        match self.window.slide(sound) {
-            Some(number) => self.codes.codes[number],
-            None => 0,
-        }
+        self.window
+            .slide(sound)
+            .map_or(0, |number| self.codes.known(number))
     }
 
     fn count(&self, code: usize) -> usize {

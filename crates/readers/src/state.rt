@@ -1,7 +1,10 @@
 ghost use Rattle.std.specs.Prelude.{◌≡◌};
 ghost use Rattle.readers.specs.Table.{with_child};
 
-// A run of the phrase. The state 0 is the empty run; as a child or a next one, 0 says that there is none.
+use std::mem::replace;
+
+// A run of the phrase. The state 0 is the empty run; as a child or a next one, 0 says that there is none: an Option for
+// each would take twice the room, and the empty run is no state's child.
 #[derive(Clone, Copy, Default)]
 pub(crate) struct State {
     // Where the run stands in the phrase, and how many sounds it has.
@@ -19,12 +22,10 @@ pub(crate) struct State {
     pub(crate) next: usize,
 }
 
-// Puts the state `child` first among a state's children, and answers the one that was first before.
+// Lent one state, puts the state `child` first among a state's children, and answers the one that was first before.
 pub(crate) fn link(parent: &mut State, child: usize) -> usize
     ensures older { result ≡ parent.old.child }
     ensures linked { parent.new ≡ with_child parent.old child }
 {
-    let older = parent.child;
-    parent.child = child;
-    older
+    replace(&mut parent.child, child)
 }

@@ -30,7 +30,7 @@ impl Walker {
 
     // The state of the longest end of the remembered one followed by a sound. A turn that goes on makes the end one
     // sound shorter, and a sound makes it at most one longer: so a call has two turns or fewer on average. The turns go
-    // by places, since the memory is fixed.
+    // by hand: `successors` can walk the places, but the library does not prove that it ends.
     fn follow(&self, sound: u32) -> usize
         ensures inside { result < length self.now.table.states.items }
         ensures longest { Follows self.now sound result }

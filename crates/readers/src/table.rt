@@ -1,13 +1,14 @@
 ghost use Rattle.std.specs.Prelude.{◌≡◌, ◌<◌, [], ◌∷◌, length, slice_index_or};
 ghost use Rattle.terms.specs.Limits.{most_states};
-ghost use Rattle.readers.specs.Table.{Tree, nodes, Found, blank, grown};
+ghost use Rattle.readers.specs.Table.{Tree, nodes, Found, blank, grown, newest_child};
 ghost use Rattle.readers.specs.Props.{tree_prop};
 
 use crate::state::{State, link};
 use arrayvec::ArrayVec;
 use terms::limits::MOST_STATES;
 
-// The states. They refer to one another by their places, since the memory is fixed.
+// The states. They refer to one another by their places, since the memory is fixed. A place is a plain number: which
+// table it fits is no fact of its type, so each call asks for it.
 #[derive(Drop)]
 pub(crate) struct Table {
     pub(crate) states: ArrayVec<State, MOST_STATES>,
@@ -31,7 +32,7 @@ impl Table {
     {
         let states = self.states.as_slice();
         let mut at = states[from].child;
-        // Places lead from child to child, since the memory is fixed.
+        // By hand: `successors` can walk the places, but the library does not prove that it ends.
         while at != 0 {
             let state = states[at];
             if state.sound == sound {
@@ -42,41 +43,20 @@ impl Table {
         None
     }
 
-    // One state more, a child of the state `parent`.
-    pub(crate) fn add(
-        &mut self,
-        parent: usize,
-        at: usize,
-        len: usize,
-        sound: u32,
-        shorter: usize,
-    ) -> usize
-        requires inside { parent < length self.old.states.items }
+    // One state more, the newest child of its parent; its `child` and `next` are set here.
+    pub(crate) fn add(&mut self, state: State) -> usize
+        requires inside { state.parent < length self.old.states.items }
         requires room { length self.old.states.items < most_states }
         ensures place { result ≡ length self.old.states.items }
-        ensures states { self.new.states.items
-            ≡ grown self.old.states.items parent (record {
-              at = at;
-              len = len;
-              sound = sound;
-              code = 0;
-              parent = parent;
-              shorter = shorter;
-              child = 0;
-              next = (slice_index_or self.old.states.items parent blank).child;
-            }) }
+        ensures states { self.new.states.items ≡ grown self.old.states.items state.parent
+            (newest_child state (slice_index_or self.old.states.items state.parent blank).child) }
     {
         let place = self.states.len();
-        let next = link(&mut self.states[parent], place);
+        let next = link(&mut self.states[state.parent], place);
         self.states.push(State {
-            at,
-            len,
-            sound,
-            code: 0,
-            parent,
-            shorter,
             child: 0,
             next,
+            ..state
         });
         place
     }

@@ -3,7 +3,8 @@ ghost use Rattle.readers.specs.Window.{slid, Filled};
 
 use crate::scale::Scale;
 
-// The last sounds, at most `width` of them, as one number; `heard` says how many are there yet.
+// The last sounds, at most `width` of them, as one number; `heard` says how many are there yet,
+// since a number does not show its leading zeros.
 #[derive(Clone, Copy)]
 pub(crate) struct Window {
     pub(crate) scale: Scale,

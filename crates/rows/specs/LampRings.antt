@@ -3,11 +3,11 @@ use Rattle.std.specs.Prelude.{◌≡◌, ℕ, ◌<◌, ◌≤◌, List, [], ◌�
 use Rattle.terms.specs.Limits.{lamp_length}
 use Rattle.terms.specs.Marks.{newest}
 use Rattle.rows.specs.declared.lamp_ring.LampRing.{LampRing}
-use Rattle.rows.specs.LampTrees.{in_range}
+use Rattle.rows.specs.LampTrees.{answers_from, in_range}
 
--- the answers that a ring holds, each a gap and a step, oldest first: a contract sees nothing else of it
+-- the answers that a ring holds, each a gap and a step, oldest first
 abbrev pub answers : LampRing → List (ℕ × ℕ)
-answers r = r
+answers r = answers_from r.head r.tree
 
 -- one answer more, brought into range; of more than fit the oldest goes
 abbrev pub answered : ℕ → ℕ → List (ℕ × ℕ) → List (ℕ × ℕ)

@@ -5,6 +5,7 @@ pub mod Rows
 pub mod OneLeast
 pub mod TreeRows
 pub mod LampTrees
+pub mod Props
 pub mod LampRings
 pub mod LampLaws
 pub mod MarkLaws

@@ -6,7 +6,7 @@ ghost use Rattle.rows.specs.LampLaws.{lamp_laws};
 use crate::summary::Summary;
 use terms::limits::{LONGEST_PHRASE, LONGEST_TAKE};
 
-// The least gap of neighbouring answers, with its earliest step.
+// The least gap of neighbouring answers, with its earliest step. A size of 0 is no answer: the laws of a summary ask for it.
 #[derive(Clone, Copy)]
 pub(crate) struct Lamp {
     pub size: u32,

@@ -1,8 +1,9 @@
 ghost use Rattle.std.specs.Prelude.{◌≡◌, []};
+ghost use Rattle.rows.specs.LampTrees.{LampKept};
+ghost use Rattle.rows.specs.Props.{lamp_kept_prop};
 
 use crate::lamp::Lamp;
 use crate::tree::{Tree, wrap};
-use std::marker::Model;
 use terms::limits::LAMP_LENGTH;
 
 // A constant beside the length, since a const argument cannot be computed.
@@ -13,18 +14,7 @@ const LAMP_NODES: usize = 2 * LAMP_LENGTH;
 pub struct LampRing {
     tree: Tree<Lamp, LAMP_NODES>,
     head: usize,
-}
-
-// To a contract, a ring is its answers, oldest first.
-impl Model for LampRing {
-    ghost use Rattle.std.specs.Prelude.{ℕ, List};
-    ghost use Rattle.rows.specs.LampTrees.{answers_from, LampKept};
-
-    ghost Value = { List (ℕ × ℕ) };
-
-    ghost view = { λ r. answers_from r.head r.tree };
-
-    ghost invariant = { λ r. LampKept r.head r.tree };
+    ghost kept: { LampKept head tree } by { lamp_kept_prop tree-code head tree },
 }
 
 impl LampRing {
@@ -40,7 +30,8 @@ impl LampRing {
         }
     }
 
-    // One answer more, brought into range; of more than fit the oldest goes.
+    // One answer more, brought into range; of more than fit the oldest goes. A gap and a step alone: the lamp knows no
+    // start.
     pub fn add(&mut self, gap: u32, step: u32)
         ensures { answers self.new ≡ answered gap step (answers self.old) }
     {

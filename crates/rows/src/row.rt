@@ -27,7 +27,7 @@ pub trait Row: Sized + Drop {
     fn lift(&mut self, age: usize) -> Result<(), Refusal>
         ensures { LiftTold marks self.old age result self.new };
 
-    // The least sum of any number of newest marks, and the largest number of marks that has it.
+    // The least sum of any number of newest marks, and the largest number of marks that has it: a pair, to be taken apart.
     fn least(&self) -> (i32, u32)
         ensures { Least (map worth (marks self.now)) result.0 result.1 };
 }

@@ -4,7 +4,7 @@ ghost use Rattle.rows.specs.Laws.{Grown, TreeSize, Wrapped, limit, ring, sizes, 
 use crate::summary::Summary;
 use std::marker::Model;
 
-// A tree of half as many leaves as nodes: the root at 1, the children of node i at 2 i and 2 i + 1, older before newer.
+// A tree in an array, since the memory is fixed, of half as many leaves as nodes: the root at 1, the children of node i at 2 i and 2 i + 1, older before newer.
 #[derive(Drop)]
 pub(crate) struct Tree<T: Summary, const NODES: usize> {
     nodes: [T; NODES],
@@ -45,6 +45,7 @@ impl<T: Summary, const NODES: usize> Tree<T, NODES> {
         let mut nodes = [T::none(); NODES];
         let all = &mut nodes[..];
         all[half..].copy_from_slice(leaves);
+        // By number: the children of a node are found by it.
         for i in (1..half).rev() {
             nodes[i] = T::join(nodes[2 * i], nodes[2 * i + 1]);
         }
@@ -60,7 +61,7 @@ impl<T: Summary, const NODES: usize> Tree<T, NODES> {
     {
         let mut node = NODES / 2 + k;
         self.nodes[node] = v;
-        // A loop by hand: no iterator of the library halves a number.
+        // A loop by hand: `successors` could halve, but the library does not prove that it ends.
         while node > 1 {
             node /= 2;
             self.nodes[node] = T::join(self.nodes[2 * node], self.nodes[2 * node + 1]);
@@ -88,7 +89,7 @@ impl<T: Summary, const NODES: usize> Tree<T, NODES> {
     }
 }
 
-// A place of a ring of `len`, counted on past its end. A comparison, since it costs less than a division.
+// A place of a ring of `len`, counted on past its end: at most once round, so a comparison does.
 pub(crate) fn wrap(at: usize, len: usize) -> usize
     requires { at < 2 * len }
     ensures { Wrapped at len result }

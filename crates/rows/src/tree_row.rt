@@ -1,6 +1,9 @@
 ghost use Rattle.std.specs.Prelude.{◌≡◌, ◌≤◌, ◌++◌, length, drop, replicate};
 ghost use Rattle.rows.specs.declared.mark.Mark.TheVariants.{Plus};
+ghost use Rattle.rows.specs.Laws.{ring};
 ghost use Rattle.rows.specs.Marks.{leaf_of};
+ghost use Rattle.rows.specs.Props.{row_kept_prop};
+ghost use Rattle.rows.specs.TreeRows.{RowKept, shown};
 
 use crate::mark::Mark;
 use crate::marks::Marks;
@@ -8,36 +11,23 @@ use crate::refusals::{lift_refused, start_refused};
 use crate::row::Row;
 use crate::summary::Summary;
 use crate::tree::{Tree, wrap};
-use std::marker::Model;
 use terms::limits::WIDEST_ROW;
 use terms::refusal::Refusal;
 
 // A constant beside the width, since a const argument cannot be computed.
 const ROW_NODES: usize = 2 * WIDEST_ROW;
 
-// A row that keeps its marks in the leaves of a tree, as a ring whose oldest mark stands at `head`.
+// A row that keeps its marks in the leaves of a tree, as a ring whose oldest mark stands at `head`. Only `len` leaves
+// are in use, since the memory is fixed.
 #[derive(Drop)]
 pub struct TreeRow {
     tree: Tree<Marks, ROW_NODES>,
     len: usize,
     head: usize,
+    ghost kept: { RowKept len head tree } by { row_kept_prop tree-code len head tree },
 }
 
-// To a contract, a row is its marks, oldest first.
-impl Model for TreeRow {
-    ghost use Rattle.std.specs.Prelude.{List};
-    ghost use Rattle.rows.specs.declared.mark.Mark.{Mark};
-    ghost use Rattle.rows.specs.Laws.{ring};
-    ghost use Rattle.rows.specs.TreeRows.{RowKept, shown};
-
-    ghost Value = { List Mark };
-
-    ghost view = { λ r. ring r.head (shown r.tree) };
-
-    ghost invariant = { λ r. RowKept r.len r.head r.tree };
-}
-
-// Puts `count` marks of +1 over the first leaves.
+// Puts `count` marks of +1 over the first leaves. On a slice: a part lent of an array in place leaves a long term.
 fn fill_front(leaves: &mut [Marks], count: usize)
     requires { count ≤ length leaves.old }
     ensures { leaves.new ≡ replicate count (leaf_of Plus) ++ drop count leaves.old }
@@ -46,7 +36,7 @@ fn fill_front(leaves: &mut [Marks], count: usize)
 }
 
 impl Row for TreeRow {
-    ghost marks = { λ r. r };
+    ghost marks = { λ r. ring r.head (shown r.tree) };
 
     fn new() -> TreeRow {
         TreeRow {

@@ -23,8 +23,9 @@ pub(crate) fn read_head(sheet: &[u8]) -> Result<(Head, Rest<'_>), SheetRefusal>
     let kind = Kind::try_from(letter).map_err(|cause| SheetRefusal::new(cause, 0))?;
     let [figure, low, high] = rest.field::<3>()?;
     let figure = usize::from(figure);
-    let count = u16::from_le_bytes([low, high]);
-    let length = usize::from(count);
+    let count = u32::from(u16::from_le_bytes([low, high]));
+    let length = count as usize;
+    // Lines 11, 12 and 13 of the table again: through `check_phrase` each would be told apart once more for its place.
     if length == 0 {
         return Err(SheetRefusal::new(Refusal::EmptyPhrase, 2));
     }
@@ -37,7 +38,7 @@ pub(crate) fn read_head(sheet: &[u8]) -> Result<(Head, Rest<'_>), SheetRefusal>
     let head = Head {
         kind,
         figure,
-        count: count.into(),
+        count,
     };
     Ok((head, rest))
 }

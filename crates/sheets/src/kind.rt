@@ -24,6 +24,7 @@ impl TryFrom<u8> for Kind {
     ghost try_from_gives = { λ b r.
         MatchResult r (λ k. (letter_of k ≡ b) × (k ≡ kind_at b)) (λ e. (e ≡ UnknownKind) × (Lettered b → ⊥)) };
 
+    // The letters are literal cases, here and in `From`.
     fn try_from(letter: u8) -> Result<Kind, Refusal> {
         match letter {
             b'L' => Ok(Kind::Lanes),
@@ -47,6 +48,7 @@ impl From<Kind> for u8 {
     }
 }
 
+// The kinds are closed, and told at run time by a letter: only here a kind becomes a type.
 impl Kind {
     // The bytes of a step of the kind.
     pub fn step_bytes(self) -> usize

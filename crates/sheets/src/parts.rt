@@ -3,7 +3,7 @@ ghost use Rattle.std.specs.Prelude.{◌≡◌};
 
 use crate::kind::Kind;
 
-// A part of a sheet: its place, how many steps it has, and their bytes.
+// A part of a sheet: its place, how many steps it has (so that a user need not divide), and their bytes.
 #[derive(Clone, Copy, Debug, PartialEq, Eq)]
 pub struct Part<'a> {
     pub place: usize,
@@ -11,7 +11,7 @@ pub struct Part<'a> {
     pub bytes: &'a [u8],
 }
 
-// The steps of a sheet's phrase or of its take.
+// The steps of a sheet's phrase or of its take; a section says which of the two it is.
 #[derive(Clone, Copy, Debug, PartialEq, Eq)]
 pub enum Section<'a> {
     Phrase(Part<'a>),

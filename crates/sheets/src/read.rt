@@ -32,6 +32,7 @@ pub fn order_decides()
 {}
 
 // How many bytes of an input are to be read: one more than the longest sheet has, which shows that an input is longer.
+#[tactic(auto, using(crate::proofs::Longest::longest_sheets))]
 pub fn reading_limit() -> usize
     ensures limit { result ≡ longest_sheet + 1 }
     ensures longest { LongestSheet }

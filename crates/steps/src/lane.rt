@@ -21,7 +21,7 @@ pub enum Lane {
     Accent,
 }
 
-// The lane of a letter.
+// The lane of a letter. Letters are literal cases, here and below.
 impl TryFrom<u8> for Lane {
     type Error = Refusal;
 

@@ -19,7 +19,7 @@ impl Note {
     pub fn new(pad: u8, velocity: u8, offset: i8) -> Result<Note, Refusal>
         ensures { NoteTold pad velocity offset result }
     {
-        if pad > 15 || velocity > 127 || offset < -24 || offset > 24 {
+        if pad > 15 || velocity > 127 || !(-24..=24).contains(&offset) {
             return Err(Refusal::UnknownStep);
         }
         Ok(Note {

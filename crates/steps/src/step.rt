@@ -40,7 +40,7 @@ pub trait Step: Copy {
     fn sound(self) -> u32
         ensures { result ≡ sound self };
 
-    // The step's bytes at the front of an array, and 0 behind them.
+    // The step's bytes at the front of an array, and 0 behind them: an array's length cannot be a constant of the trait.
     fn encode(self) -> [u8; WIDEST_STEP]
         ensures { result ≡ padded (bytes self) };
 

@@ -2,6 +2,7 @@
 #![tactic(auto)]
 
 pub mod answer;
+pub mod checks;
 pub mod limits;
 pub mod refusal;
 pub mod theorems;

@@ -2,23 +2,18 @@ use Rattle.std.proofs.Common.{rules, refl, false, ap}
 use Rattle.life.specs.Chains.{load, step, clear}
 use Rattle.life.specs.Outcomes.{belongs}
 use Rattle.life.proofs.Standing.{made_told, run_told, close_told, out_told}
+use Rattle.life.proofs.making.on_rolling.Goals.{in-Load, in-Step, in-Run, in-Clear, in-Reopen}
 use Rattle.life.proofs.making.on_rolling.Goals as goal
-
-pub returns-in-Load : goal.returns-in-Load
-returns-in-Load g c = made_told refl c.in-Load.is (search rules) (load c.load-res.ensures) refl
-
-pub returns-in-Step : goal.returns-in-Step
-returns-in-Step g c = made_told refl c.in-Step.is (search rules) (step c.step-res.ensures) refl
-
-pub returns-in-Run : goal.returns-in-Run
-returns-in-Run g c =
-    run_told refl c.in-Run.is c.requires c.run-res.auto.records c.run-res.ensures (search rules)
-
-pub returns-in-Clear : goal.returns-in-Clear
-returns-in-Clear g c = made_told refl c.in-Clear.is refl (clear c.clear.ensures) refl
 
 pub returns-in-Close : goal.returns-in-Close
 returns-in-Close g c = search (rules, close_told)
 
-pub returns-in-Reopen : goal.returns-in-Reopen
-returns-in-Reopen g c = out_told refl (ap (belongs false) c.in-Reopen.is)
+pub returns : goal.returns
+returns g c =
+    elim c.match-call.branch [
+      | in-Load w ↦ rw (w.records-is, w.rolling-is, w.event-is) (made_told refl w.in-Load.is (search rules) (load w.load.ensures) refl)
+      | in-Step w ↦ rw (w.records-is, w.rolling-is, w.event-is) (made_told refl w.in-Step.is (search rules) (step w.step.ensures) refl)
+      | in-Run w ↦ rw (w.records-is, w.rolling-is, w.event-is) (run_told refl w.in-Run.is c.requires w.run.auto.records w.run.ensures (search rules))
+      | in-Clear w ↦ rw (w.records-is, w.rolling-is, w.event-is) (made_told refl w.in-Clear.is refl (clear w.clear.ensures) refl)
+      | in-Reopen w ↦ rw (w.records-is, w.rolling-is, w.event-is) (out_told refl (ap (belongs false) w.in-Reopen.is))
+    ]

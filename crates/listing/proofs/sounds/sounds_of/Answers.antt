@@ -1,7 +1,14 @@
 use Rattle.std.proofs.Common.{◌∙◌, arith, rules}
 use Rattle.sheets.proofs.Sheets.{sized}
-use Rattle.listing.proofs.Sounded.{one_fits, one_less, none_left}
+use Rattle.listing.proofs.Sounded.{one_written, one_fits, one_less, none_left}
 use Rattle.listing.proofs.sounds.sounds_of.Goals as goal
+
+pub sound_at-requires : goal.sound_at-requires
+sound_at-requires g c =
+    let s = c.in-Some.ensures.steps in
+    let w = c.requires in
+    let i = c.loop-step.invariant in
+    one_written (sized c.args.kind) (omega (arith, c.step_bytes.ensures.some, c.step_bytes.ensures.size)) _ _ _ s.1.0 (s.1.1 ∙ i.size) (i.left w.steps w.are)
 
 pub push-requires : goal.push-requires
 push-requires g c =

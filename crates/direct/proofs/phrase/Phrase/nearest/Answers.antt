@@ -29,7 +29,7 @@ loop-from-preserved c =
     let t = c.args.take.now in
     let i = c.loop-from.from in
     record {
-      nearest = subst (NearestFrom q p t _) (sym c.min-nearest.ensures)
+      nearest = subst (NearestFrom q p t _) (sym c.or_earlier-nearest.ensures)
           (walk_more q p t i c.loop-from.nearest c.older-gap.result (omega arith) c.loop-from.invariant.nearest c.older-gap.ensures);
       here = c.older-gap.ensures ∙ ap (gap q p) (take_rest t _);
       above = omega arith;

@@ -17,7 +17,7 @@ returns-in_err-load g c =
     let e = c.in_err-load.ensures.exact in
     rw (p.1, p.2) record {
       exact = sym (ap₂ (λ n zs. load_refusal (g.R.Reader.reaches n) zs c.args.q n) c.SOUNDS.ensures ps) ∙ e.0;
-      kept = back c.args.self.now _ _ _ e.1;
+      kept = back c.args.self.now _ e.1;
     }
 
 pub returns : goal.returns

@@ -1,4 +1,4 @@
-use Rattle.std.proofs.Common.{◌≡◌, ◌+◌, ◌-◌, ◌<◌, ◌∷◌, [], List, length, replicate, refl, ap, ◌∙◌, subst, sym, arith, length-set, length-drop}
+use Rattle.std.proofs.Common.{◌≡◌, ◌+◌, ◌-◌, ◌<◌, ◌∷◌, [], List, length, replicate, refl, ap, ◌∙◌, subst, sym, arith, rules, length-set, length-drop}
 use Rattle.std.proofs.lemmas.Grind.{common_steps}
 use Rattle.readers.specs.declared.state.State.{State}
 use Rattle.readers.specs.declared.table.Table.{Table}
@@ -42,7 +42,8 @@ loop-at-preserved c =
             room = let h = ap length e in omega (arith, i.room);
           }
       | in-None w ↦
-          let e = ap (λ (t : Table). t.states.items) w.table-is ∙ w.add.ensures.states in record {
+          let d : w.default.result ≡ blank = search rules in
+          let e = ap (λ (t : Table). t.states.items) w.table-is ∙ (rw d at w.add.ensures.states) in record {
             built = place_new ph len at _ ps i.built hp hl _ (grind (arith, common_steps)) _ _ e (w.places-is ∙ w.add.ensures.place) c.loop-at.table.tree w.in-None.ensures;
             fresh = new_uncoded ph len at _ ps i.built hp hl _ (grind (arith, common_steps)) _ c.match-find.places e i.fresh;
             long = length-set ps at c.match-find.places ∙ i.long;

@@ -4,7 +4,7 @@ use Rattle.terms.specs.Figures.{figures}
 use Rattle.terms.proofs.Runs.{length_figures}
 use Rattle.readers.specs.Table.{nodes, Counts, Numbered, most_places}
 use Rattle.readers.proofs.Loading.{keeps_built}
-use Rattle.readers.proofs.Naming.{within, standing, turn, turn_small, turn_counts, few_codes, few_counts, numbered_start, counts_start}
+use Rattle.readers.proofs.Naming.{room_to_give, turn, numbered_start, counts_start}
 use Rattle.readers.proofs.Starts.{zeros}
 use Rattle.readers.proofs.build.Unnumbered.number.Goals as goal
 
@@ -16,45 +16,28 @@ loop-state-init c = record {
 
 pub give_code-codes-requires : goal.give_code-codes-requires
 give_code-codes-requires c =
-    let b = c.args.self.built in
-    let h = c.loop-state-test.true in
-    let w = within _ _ _ _ _ b _ h in
-    let l = (standing _ _ _ _ _ b _ h).in_table in
-    let m = c.loop-state.invariant.numbered.as_many in
-    let f = c.args.self.fits in
-    let e = few_codes _ _ _ _ _ _ _ c.loop-state.invariant.numbered in
-    record { inside = omega arith; few = omega arith }
+    let r = room_to_give _ _ _ _ _ c.args.self.built c.args.self.fits _ c.loop-state-test.true _ _ c.loop-state.invariant.numbered in
+    record { inside = r.0; few = r.1 }
 
 pub add-requires : goal.add-requires
 add-requires c =
-    let b = c.args.self.built in
-    let h = c.loop-state-test.true in
-    let w = within _ _ _ _ _ b _ h in
-    let f = c.args.self.fits in
-    let s = turn_small _ _ _ _ _ _ b.runs (standing _ _ _ _ _ b _ h) c.requires w _ _ _ _ c.loop-state.invariant.numbered c.give_code-codes.ensures _ c.code.ensures in
-    let e = few_counts c.args.self.phrase.now c.args.self.len c.loop-state.state-index c.loop-state.counts.counts c.code.result c.loop-state.invariant.counted in
-    record { inside = omega arith; few = omega arith }
+    let t =
+    turn _ _ _ _ _ c.args.self.built c.args.self.fits _ c.loop-state-test.true _ _ c.loop-state.invariant.numbered c.requires _ _ c.give_code-codes.ensures _ c.code.ensures
+    _ c.loop-state.counts.long c.loop-state.invariant.counted in
+    record { inside = t.small; few = t.few }
 
 pub loop-state-preserved : goal.loop-state-preserved
 loop-state-preserved c =
-    let ph = c.args.self.phrase.now in
-    let q = c.args.self.len in
-    let a = c.loop-state.state-index in
-    let b = c.args.self.built in
-    let h = c.loop-state-test.true in
-    let w = within _ _ _ _ _ b _ h in
-    let f = c.args.self.fits in
-    let l = c.loop-state.counts.long in
-    let s = turn_small _ _ _ _ _ _ b.runs (standing _ _ _ _ _ b _ h) c.requires w _ _ _ _ c.loop-state.invariant.numbered c.give_code-codes.ensures _ c.code.ensures in
+    let t =
+    turn _ _ _ _ _ c.args.self.built c.args.self.fits _ c.loop-state-test.true _ _ c.loop-state.invariant.numbered c.requires _ _ c.give_code-codes.ensures _ c.code.ensures
+    _ c.loop-state.counts.long c.loop-state.invariant.counted in
     record {
-      numbered = turn _ _ _ _ _ _ b.runs (standing _ _ _ _ _ b _ h) c.requires w _ _ _ _ c.loop-state.invariant.numbered c.give_code-codes.ensures _ c.code.ensures;
-      counted = subst (Counts (take (a + 1) (figures q ph))) (sym c.add.ensures)
-          (turn_counts _ _ _ _ _ _ b.runs (standing _ _ _ _ _ b _ h) c.requires w _ _ _ _ c.loop-state.invariant.numbered c.give_code-codes.ensures _ c.code.ensures
-          c.loop-state.counts.counts c.loop-state.invariant.counted (omega arith));
+      numbered = t.numbered;
+      counted = subst (Counts (take (c.loop-state.state-index + 1) (figures c.args.self.len c.args.self.phrase.now))) (sym c.add.ensures) t.counted;
     }
 
-pub returns : goal.returns
-returns c =
+pub returns-clause-keeps : goal.returns-clause-keeps
+returns-clause-keeps c =
     let ph = c.args.self.phrase.now in
     let q = c.args.self.len in
     let ss = c.args.self.table.states.items in

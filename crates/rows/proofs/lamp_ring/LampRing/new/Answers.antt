@@ -7,4 +7,4 @@ pub new-requires : goal.new-requires
 new-requires c = (lit< tt, (depth_of_lamp, refl))
 
 pub invariant_of-result : goal.invariant_of-result
-invariant_of-result c = kept_none c.new.result c.new.ensures
+invariant_of-result c = record { kept = kept_none c.new.result c.new.ensures }

@@ -25,7 +25,7 @@ pub invariant_of-self : goal.invariant_of-self
 invariant_of-self c =
     let n = c.args.count in
     let few = start_allowed n (sym c.start_refused.ensures ∙ c.in_ok-start_refused.was) in
-    started_kept n few _ c.none-leaves.ensures c.fill_front.new.leaves c.fill_front.ensures c.from_leaves.result c.from_leaves.ensures
+    record { kept = started_kept n few _ c.none-leaves.ensures c.fill_front.new.leaves c.fill_front.ensures c.from_leaves.result c.from_leaves.ensures }
 
 pub returns : goal.returns
 returns c =
