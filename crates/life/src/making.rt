@@ -10,7 +10,8 @@ use rows::row::Row;
 use steps::step::Step;
 use terms::answer::Answer;
 
-// A call on a rolling take. A struct of a call and its records would say their length once and be taken apart twice.
+// A call on a rolling take. Calls are told apart by what they are, here and below, since they stand in a list and a
+// closure cannot lie there. A struct of a call and its records would say their length once and be taken apart twice.
 fn on_rolling<S: Step, R: Reader, M: Row>(
     mut rolling: Rolling<S, R, M>,
     call: &Call<S>,
