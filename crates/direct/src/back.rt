@@ -23,7 +23,7 @@ impl Nearest {
 
 impl Phrase<'_> {
     // Walks from the empty stretch at the end of the take back to the stretch that begins after `low` steps.
-    pub fn nearest(&self, take: &[u32], low: usize) -> Nearest
+    pub(crate) fn nearest(&self, take: &[u32], low: usize) -> Nearest
         requires { low ≤ length take.now }
         ensures { NearestFrom self.now.q self.now.sounds.now take.now low result }
     {

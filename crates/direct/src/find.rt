@@ -14,7 +14,7 @@ use terms::refusal::Refusal;
 impl Phrase<'_> {
     // The answer at the last step of a take. Stretches with more than twice as many figures as the phrase are left out:
     // their gap is above that of the empty stretch.
-    pub fn answer(&self, take: &[u32]) -> Answer
+    pub(crate) fn answer(&self, take: &[u32]) -> Answer
         requires { length take.now ≤ longest_take }
         ensures { Answered self.now.q self.now.sounds.now take.now result }
     {

@@ -10,8 +10,8 @@ use terms::refusal::Refusal;
 // A phrase that no line turns away.
 #[derive(Clone, Copy)]
 pub(crate) struct Phrase<'a> {
-    pub sounds: &'a [u32],
-    pub q: usize,
+    pub(crate) sounds: &'a [u32],
+    pub(crate) q: usize,
     ghost from_one: { 1 ≤ q },
     ghost to_phrase: { q ≤ length sounds.now },
     ghost short: { length sounds.now ≤ longest_phrase },
@@ -19,7 +19,7 @@ pub(crate) struct Phrase<'a> {
 
 impl<'a> Phrase<'a> {
     // The lines of the phrase and its figure length, in their order.
-    pub fn new(sounds: &'a [u32], q: usize) -> Result<Self, Refusal>
+    pub(crate) fn new(sounds: &'a [u32], q: usize) -> Result<Self, Refusal>
         ensures refused { result_err result ≡ first_of (phrase_lines (length sounds.now) q) }
         ensures held { IfOk result (λ p. (p.sounds.now ≡ sounds.now) × (p.q ≡ q)) }
     {
