@@ -1,6 +1,6 @@
 -- How often a figure stands in a row, from one place of the row to the one before it.
-use Rattle.std.proofs.Common.{◌≡◌, ℕ, ◌+◌, ◌-◌, Bool, true, false, cond, ◌⊎◌, List, [], ◌∷◌, length, take, drop, Decides, nat_eq, filter, sym, refl, ap, ◌∙◌, inl, inr, arith}
-use Rattle.std.proofs.lemmas.List.{drop-drop, length-take, take_rest}
+use Rattle.std.proofs.Common.{◌≡◌, ℕ, ◌+◌, ◌-◌, ◌<◌, ◌≤◌, Bool, true, false, cond, ◌⊎◌, List, [], ◌∷◌, length, get_or, take, drop, Decides, nat_eq, filter, sym, refl, ap, ◌∙◌, inl, inr, arith}
+use Rattle.std.proofs.lemmas.List.{drop_all, drop_more, drop-drop, length-take, take_rest}
 use Rattle.std.specs.List.{range_with_len}
 use Rattle.std.specs.Cmp.Lexicographic.{pointwise, bytes_decides}
 use Rattle.std.proofs.lemmas.Bool.{both_ways, cases_lt, cases_Bool}
@@ -59,3 +59,50 @@ module _ (f row : List ℕ) where
 
   pub places : length (filter (stands f row) (range_with_len 0 (length row))) ≡ count f (figures (length f) row)
   places = places_from row 0 refl
+
+-- what `starts_with` tells of the row from a place on
+pub begins : (row f : List ℕ) (i : ℕ) (r : Bool)
+    → r ≡ pointwise nat_eq f (take (length f) (take (length row - i) (drop i row)))
+    → Decides r (f ≡ take (length f) (drop i row))
+begins row f i r m =
+    let e = ap (take (length f)) (take_rest row i) in
+    let d = bytes_decides f (take (length f) (take (length row - i) (drop i row))) in
+    (λ h. d.0 (sym m ∙ h) ∙ e, λ h. m ∙ d.1 (h ∙ sym e))
+
+pub times_end : (f row : List ℕ) (q : ℕ) → count f (figures q (drop (length row) row)) ≡ 0
+unfolding figures
+times_end f row q = rw (drop_all (length row) row (omega arith)) (count_nil f)
+
+-- the same by the place before
+module _ (f row : List ℕ) (i : ℕ) (a : 0 < i) (b : i ≤ length row) where
+  split : drop (i - 1) row ≡ get_or row (i - 1) 0 ∷ drop i row
+  split =
+      let e : i - 1 + 1 ≡ i = omega arith in
+      drop_more row (i - 1) 0 (omega arith) ∙ ap (λ n. get_or row (i - 1) 0 ∷ drop n row) e
+
+  pub times_here : f ≡ take (length f) (drop (i - 1) row)
+      → count f (figures (length f) (drop (i - 1) row)) ≡ count f (figures (length f) (drop i row)) + 1
+  times_here e =
+      let k = head_here f (drop i row) (get_or row (i - 1) 0) (e ∙ ap (take (length f)) split) in
+      let s = ap (λ r. count f (figures (length f) r)) split in
+      omega arith
+
+  pub times_not : (f ≡ take (length f) (drop (i - 1) row) → ⊥)
+      → count f (figures (length f) (drop (i - 1) row)) ≡ count f (figures (length f) (drop i row))
+  times_not n =
+      ap (λ r. count f (figures (length f) r)) split
+      ∙ head_not f (drop i row) (get_or row (i - 1) 0) (λ e. n (e ∙ ap (take (length f)) (sym split)))
+
+-- what `times` tells of the first figure of a row, in any row and in the rest of its own
+pub counted : (q : ℕ) (s row : List ℕ) (n : ℕ) → q ≤ length s
+    → n ≡ count (take (q - 0) s) (figures (length (take (q - 0) s)) row) → n ≡ count (take q s) (figures q row)
+counted q s row n l e =
+    let z : q - 0 ≡ q = omega arith in
+    let k : length (take (q - 0) s) ≡ q = length-take (q - 0) s ∙ omega arith in
+    e ∙ ap (λ j. count (take (q - 0) s) (figures j row)) k ∙ ap (λ j. count (take j s) (figures q row)) z
+
+pub counted_after : (q : ℕ) (s : List ℕ) (n : ℕ) → q ≤ length s
+    → n ≡ count (take (q - 0) s) (figures (length (take (q - 0) s)) (take (length s - 1) (drop 1 s)))
+    → n ≡ count (take q s) (figures q (drop 1 s))
+counted_after q s n l e =
+    counted q s (take (length s - 1) (drop 1 s)) n l e ∙ ap (λ r. count (take q s) (figures q r)) (take_rest s 1)

@@ -2,9 +2,9 @@
 ghost use Rattle.std.specs.Prelude.{◌≡◌, ◌≤◌, length, IfOk};
 ghost use Rattle.std.specs.Result.{result_err};
 ghost use Rattle.terms.specs.Limits.{longest_phrase};
-ghost use Rattle.terms.specs.Refusals.{first_of, phrase_lines};
+ghost use Rattle.terms.specs.Refusals.{first_of, phrase_lines, verdict};
 
-use terms::checks::check_phrase;
+use terms::limits::{LONGEST_FIGURE, LONGEST_PHRASE};
 use terms::refusal::Refusal;
 
 // A phrase that no line turns away.
@@ -15,6 +15,23 @@ pub(crate) struct Phrase<'a> {
     ghost from_one: { 1 ≤ q },
     ghost to_phrase: { q ≤ length sounds.now },
     ghost short: { length sounds.now ≤ longest_phrase },
+}
+
+// The lines of a phrase of so many sounds and figures of q. They stand in `terms::checks` too, and once more here: the
+// second finder shares no code with the first, so that a slip in one shows against the other.
+fn check_phrase(sounds: usize, q: usize) -> Result<(), Refusal>
+    ensures { result ≡ verdict (first_of (phrase_lines sounds q)) }
+{
+    if sounds == 0 {
+        return Err(Refusal::EmptyPhrase);
+    }
+    if sounds > LONGEST_PHRASE {
+        return Err(Refusal::LongPhrase);
+    }
+    if q == 0 || q > sounds || q > LONGEST_FIGURE {
+        return Err(Refusal::FigureLength);
+    }
+    Ok(())
 }
 
 impl<'a> Phrase<'a> {

@@ -1,5 +1,6 @@
 // All answers of a take, and its best stretch.
 ghost use Rattle.std.specs.Prelude.{◌≡◌, ◌≤◌, length};
+ghost use Rattle.terms.specs.Bettered.{better_of};
 ghost use Rattle.terms.specs.Limits.{longest_take};
 ghost use Rattle.terms.specs.Told.{Plays};
 ghost use Rattle.direct.specs.Calls.{PlayTold};
@@ -8,6 +9,21 @@ use crate::find::check_length;
 use crate::phrase::Phrase;
 use terms::answer::{Answer, BestStretch};
 use terms::refusal::Refusal;
+
+// The better of the best so far and a later answer: the earlier among equals. As `BestStretch::better`, which the first
+// finder goes by; the second shares no code with it.
+fn better(best: Option<BestStretch>, new: Answer) -> BestStretch
+    ensures { result ≡ better_of best new }
+{
+    match best {
+        Some(old) if old.gap <= new.gap => old,
+        _ => BestStretch {
+            gap: new.gap,
+            start: new.start,
+            end: new.step,
+        },
+    }
+}
 
 impl Phrase<'_> {
     // Fills the records of a take.
@@ -18,7 +34,7 @@ impl Phrase<'_> {
         let mut best = None;
         for (i, answer) in answers.iter_mut().enumerate() {
             *answer = self.answer(&take[..i + 1]);
-            best = Some(BestStretch::better(best, *answer));
+            best = Some(better(best, *answer));
         }
         best
     }
