@@ -14,9 +14,13 @@ use Rattle.listing.specs.declared.line.Line.{Line}
 use Rattle.listing.specs.declared.line.Line.TheVariants.{Step, Best, Refused}
 use Rattle.listing.specs.declared.made.Listing.{Listing}
 
+-- a line for each answer, and a last one
+abbrev pub lines_with : List Answer → Line → List Line
+lines_with answers last = map Step answers ++ (last ∷ [])
+
 -- the lines of a listing
 abbrev pub lines_of : Listing → List Line
-lines_of l = map Step l.answers.items ++ (l.last ∷ [])
+lines_of l = lines_with l.answers.items l.last
 
 -- the take is played against the phrase, both by their sounds: a line for the answer at each step, by Closest, and a
 -- last one for the best stretch of the take, by Best

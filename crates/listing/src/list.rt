@@ -3,9 +3,8 @@ ghost use Rattle.listing.specs.Listed.{Listed, lines_of};
 ghost use Rattle.listing.specs.declared.line.Line.TheVariants.{Refused};
 
 use crate::line::Line;
-use crate::made::Listing;
+use crate::made::{Answers, Listing};
 use crate::playing::play_sheet;
-use arrayvec::ArrayVec;
 use sheets::fault::SheetRefusal;
 use sheets::read::read_sheet;
 
@@ -14,7 +13,7 @@ fn refused(e: SheetRefusal) -> Listing
     ensures { lines_of result ≡ Refused e ∷ [] }
 {
     Listing {
-        answers: ArrayVec::new(),
+        answers: Answers::new(),
         last: Line::Refused(e),
     }
 }

@@ -1,4 +1,5 @@
-ghost use Rattle.std.specs.Prelude.{◌≡◌, length, slice_get};
+ghost use Rattle.std.specs.Prelude.{◌≡◌, ◌+◌, ◌≤◌, length, slice_get};
+ghost use Rattle.terms.specs.Limits.{longest_listed};
 ghost use Rattle.listing.specs.Listed.{lines_of};
 
 use crate::line::Line;
@@ -6,18 +7,22 @@ use arrayvec::ArrayVec;
 use terms::answer::Answer;
 use terms::limits::LONGEST_LISTED;
 
+// The answers that are listed.
+pub(crate) type Answers = ArrayVec<Answer, LONGEST_LISTED>;
+
 // What is listed for an input: a line for each answer, and a last one. It lies in fixed memory, so that making one
 // cannot fail.
 #[derive(Debug, PartialEq, Eq, Drop)]
 pub struct Listing {
-    pub(crate) answers: ArrayVec<Answer, LONGEST_LISTED>,
+    pub(crate) answers: Answers,
     pub(crate) last: Line,
 }
 
 impl Listing {
     // How many lines there are.
     pub fn line_count(&self) -> usize
-        ensures { result ≡ length (lines_of self.now) }
+        ensures count { result ≡ length (lines_of self.now) }
+        ensures few { result ≤ longest_listed + 1 }
     {
         self.answers.len() + 1
     }
