@@ -13,8 +13,8 @@ passed (Some x) e = cc
 pub start_passed : (w : ℕ) → verdict (start_refusal w) ≡ Ok tt → start_refusal w ≡ None
 start_passed w e = passed (start_refusal w) e
 
-pub start_allowed : (w : ℕ) → verdict (start_refusal w) ≡ Ok tt → w ≤ widest_row
-start_allowed w e = let h = start_passed w e in grind (arith, nat_tests)
+pub start_allowed : (w : ℕ) → verdict (start_refusal w) ≡ Ok tt → (0 < w) × (w ≤ widest_row)
+start_allowed w e = let h = start_passed w e in (grind (arith, nat_tests), grind (arith, nat_tests))
 
 -- a lift that passes
 pub lift_passed : (w age : ℕ) → verdict (lift_refusal w age) ≡ Ok tt → lift_refusal w age ≡ None

@@ -6,7 +6,7 @@ use Rattle.std.proofs.lemmas.List.{append-nil, length-append, length-set, get_or
 use Rattle.rows.specs.Laws.{Laws, Kept, Grown, TreeSize, limit, sizes}
 use Rattle.rows.proofs.Runs.{tall, tall_same, tall_split}
 use Rattle.rows.proofs.Walks.{tall_inside}
-use Rattle.rows.proofs.Trees.{all_valid, tall_leaves}
+use Rattle.rows.proofs.Trees.{all_valid, tall_leaves, get_or_none}
 use Rattle.rows.proofs.Climbs.{apart, set_valids}
 
 module _ {M : Type 0} (empty : M) (joined : M → M → M) (size : M → ℕ) (valid : M → Bool) (depth : ℕ) (target : List M) where
@@ -94,6 +94,7 @@ pub record Building {M : Type 0} (empty : M) (joined : M → M → M) (size : M 
   pub depth : ℕ
   pub shape : n ≡ 2 * 2 ^ depth
   pub few : sizes size leaves ≤ limit
+  pub unused : get_or xs 0 empty ≡ empty
   pub built : Built empty joined size valid depth leaves i xs
 
 -- the leaves, copied behind empty inner nodes
@@ -124,10 +125,14 @@ module _ {M : Type 0} {empty : M} {joined : M → M → M} {size : M → ℕ} {v
       built_begins laws t.0 leaves (replicate (2 ^ t.0) empty ++ leaves) (omega arith) (copied_valid (2 ^ t.0) v) (drop_at (replicate (2 ^ t.0) empty) leaves (2 ^ t.0) r) few in
       let is : replicate (n / 2) empty ++ leaves ≡ put_mid (n / 2) (length (replicate n x) - n / 2) (replicate n x) ys =
       ap (λ y. replicate (n / 2) y ++ leaves) (sym p) ∙ ap (λ zs. replicate (n / 2) x ++ zs) (sym q) ∙ sym (copied n x ys) in
+      let some = pow_pos t.0 in
+      let first : get_or (replicate (n / 2) empty ++ leaves) 0 empty ≡ empty =
+      get_or_append_left (replicate (n / 2) empty) leaves empty 0 (omega (arith, length-replicate (n / 2) empty)) ∙ get_or_none empty (n / 2) 0 in
       record {
         depth = t.0;
         shape = s;
         few = few;
+        unused = subst (λ zs. get_or zs 0 empty ≡ empty) is first;
         built = subst (λ zs. Built empty joined size valid t.0 leaves (n / 2) zs) is (subst (λ a. Built empty joined size valid t.0 leaves a (replicate a empty ++ leaves)) h begun);
       }
 
@@ -166,6 +171,7 @@ module _ {M : Type 0} {empty : M} {joined : M → M → M} {size : M → ℕ} {v
           depth = b.depth;
           shape = b.shape;
           few = b.few;
+          unused = get_or-set_other xs (i - 1) 0 z empty (λ e. omega arith) ∙ b.unused;
           built = subst (λ u. Built empty joined size valid b.depth leaves (i - 1) (set xs (i - 1) u)) w (built_more laws b.depth leaves (i - 1) xs (before h) (omega arith));
         }
 
@@ -176,6 +182,7 @@ module _ {M : Type 0} {empty : M} {joined : M → M → M} {size : M → ℕ} {v
           depth = b.depth;
           shape = b.shape;
           long = s.long ∙ sym b.shape;
+          unused = b.unused;
           kept = built_all laws b.depth leaves i xs s h b.few;
         }
 

@@ -128,6 +128,7 @@ pub record Climbing {M : Type 0} (empty : M) (joined : M → M → M) (size : M 
   pub level : ℕ
   pub shape : n ≡ 2 * 2 ^ depth
   pub few : sizes size (drop (2 ^ depth) first) ≤ limit
+  pub unused : get_or xs 0 empty ≡ empty
   pub climb : Climb empty joined size valid depth (drop (2 ^ depth) first) (2 ^ level) at xs
 
 -- the leaves, once one of them is written
@@ -143,11 +144,13 @@ module _ {M : Type 0} {empty : M} {joined : M → M → M} {size : M → ℕ} {v
       let leaves : drop (2 ^ t.depth) first ≡ set old k v = ap (λ a. drop a first) h ∙ leaves_set n xs old k v is in
       let old_is : drop (2 ^ t.depth) xs ≡ old = ap (λ a. drop a xs) h ∙ is in
       let small : sizes size (drop (2 ^ t.depth) first) ≤ limit = subst (λ ys. sizes size ys ≤ limit) (sym leaves) few in
+      let some = pow_pos t.depth in
       record {
         depth = t.depth;
         level = t.depth;
         shape = t.shape;
         few = small;
+        unused = get_or-set_other xs (n / 2 + k) 0 v empty (λ e. omega arith) ∙ t.unused;
         climb =
             subst (λ a. Climb empty joined size valid t.depth (drop (2 ^ t.depth) first) (2 ^ t.depth) (a + k) (set xs (a + k) v)) h
             (climb_begins laws t.depth (drop (2 ^ t.depth) first) xs long t.kept k (omega arith) v vv (leaves ∙ ap (λ ys. set ys k v) (sym old_is)) small);
@@ -189,6 +192,7 @@ module _ {M : Type 0} {empty : M} {joined : M → M → M} {size : M → ℕ} {v
           level = t.0;
           shape = c.shape;
           few = c.few;
+          unused = get_or-set_other xs (at / 2) 0 z empty (λ e. omega arith) ∙ c.unused;
           climb = subst (λ u. Climb empty joined size valid c.depth (drop (2 ^ c.depth) first) (2 ^ t.0) (at / 2) (set xs (at / 2) u)) w t.1;
         }
 
@@ -199,6 +203,7 @@ module _ {M : Type 0} {empty : M} {joined : M → M → M} {size : M → ℕ} {v
           depth = c.depth;
           shape = c.shape;
           long = s.long ∙ sym c.shape;
+          unused = c.unused;
           kept = climb_ends laws c.depth (drop (2 ^ c.depth) first) c.level at xs s h c.few;
         }
 

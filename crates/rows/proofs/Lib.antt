@@ -5,6 +5,7 @@ pub mod Trees
 pub mod Rings
 pub mod Climbs
 pub mod Builds
+pub mod Decided
 pub mod Allowed
 pub mod RingMoves
 pub mod Tells
@@ -14,3 +15,4 @@ pub mod OneLeast
 pub mod LampTrees
 pub mod LampTells
 pub mod LampSteps
+pub mod KeptProps

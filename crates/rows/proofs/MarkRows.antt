@@ -1,6 +1,6 @@
 -- Rows of marks: as rings, and as the leaves of a tree.
 use Rattle.std.proofs.Common.{◌≡◌, ℕ, zero, suc, ◌+◌, ◌-◌, ◌<◌, ◌≤◌, true, List, [], ◌∷◌, ◌++◌, map, length, get_or, take, drop, set, replicate, ℤ, pos, negsuc, sym, refl, ap, ◌∙◌, subst, arith}
-use Rattle.std.proofs.lemmas.List.{append-nil, append_assoc, length-append, length-map, length-set, map-append, map-set, drop-map, take-map, drop-append-le, take-append-le, set-append_left, length-replicate, drop-replicate}
+use Rattle.std.proofs.lemmas.List.{append-nil, append_assoc, length-append, length-map, length-set, map-append, map-set, drop-map, take-map, drop-append-le, take-append-le, set-append_left, set-append_right, length-replicate, drop-replicate}
 use Rattle.terms.specs.Marks.{total, least_sum, Least}
 use Rattle.terms.proofs.Leasts.{least_found}
 use Rattle.terms.specs.Limits.{widest_row}
@@ -207,3 +207,17 @@ module _ (count : ℕ) (few : count ≤ widest_row) (x : Marks) (none : x ≡ no
 
   pub started_shows : (ys : List Marks) → ys ≡ xs → ring 0 (shown ys) ≡ replicate count Plus
   started_shows ys e = append-nil (shown ys) ∙ ap shown (e ∙ started) ∙ shown_row widest_row (replicate count Plus)
+
+-- one mark more
+pub row_more : (n : ℕ) (ms : List Mark) (m : Mark) → length ms < n → set (leaf_row n ms) (length ms) (leaf_of m) ≡ leaf_row n (ms ++ m ∷ [])
+row_more n ms m h =
+    let e : n - length ms ≡ suc (n - suc (length ms)) = omega arith in
+    let l = length-map ms leaf_of in
+    let z : length ms - length ms ≡ 0 = omega arith in
+    let s : n - suc (length ms) ≡ n - length (ms ++ m ∷ []) = omega (arith, length-append ms (m ∷ [])) in
+    set-append_right (map leaf_of ms) (replicate (n - length ms) no_marks) (length ms) (length ms) (leaf_of m) l (omega arith)
+    ∙ ap (λ k. map leaf_of ms ++ set (replicate (n - length ms) no_marks) k (leaf_of m)) z
+    ∙ ap (λ k. map leaf_of ms ++ set (replicate k no_marks) 0 (leaf_of m)) e
+    ∙ sym (append_assoc (map leaf_of ms) (leaf_of m ∷ []) (replicate (n - suc (length ms)) no_marks))
+    ∙ ap (λ xs. xs ++ replicate (n - suc (length ms)) no_marks) (sym (map-append leaf_of ms (m ∷ [])))
+    ∙ ap (λ k. map leaf_of (ms ++ m ∷ []) ++ replicate k no_marks) s

@@ -1,5 +1,5 @@
 -- Two answers to the same question are equal.
-use Rattle.std.proofs.Common.{◌≡◌, ℕ, ◌≤◌, true, ◌&&◌, eqb, int_eq, List, map, ℤ, ◌≤ℤ◌, ◌<ℤ◌, sym, ap, ◌∙◌, subst, ⊎_elim, arith, eq-eqb, eqb-true}
+use Rattle.std.proofs.Common.{◌≡◌, ℕ, ◌≤◌, Bool, true, ◌&&◌, eqb, int_eq, List, map, ℤ, ◌≤ℤ◌, ◌<ℤ◌, sym, ap, ◌∙◌, subst, ⊎_elim, arith, eq-eqb, eqb-true}
 use Rattle.std.proofs.lemmas.Int.{ints}
 use Rattle.std.proofs.lemmas.Bool.{cases_lt, and_from, and_parts}
 use Rattle.terms.specs.Marks.{Least, least_sum}
@@ -38,19 +38,18 @@ always_one_least zs = record {
 
 -- a test that says whether two answers are equal says whether the rows answer alike
 pub alike : (xs ys : List Mark) (l l' : ℤ) (n n' : ℕ) → Least (map worth xs) l n → Least (map worth ys) l' n'
-    → Alike xs ys (int_eq l l' && eqb n n')
-alike xs ys l l' n n' a b =
+    → (r : Bool) → (r ≡ true → (l ≡ l') × (n ≡ n')) → (l ≡ l' → n ≡ n' → r ≡ true) → Alike xs ys r
+alike xs ys l l' n n' a b r f g =
     let p = (always_one_least (map worth xs)).only l n a in
     let q = (always_one_least (map worth ys)).only l' n' b in
-    let yes : l ≡ l' → n ≡ n' → (int_eq l l' && eqb n n') ≡ true = λ e d. and_from (int_eq l l') (eqb n n') (int_eq_true l l' e) (eq-eqb n n' d) in
     record {
       same_marks = λ e.
           let s = same_pair (map worth ys) l l' n n' (subst (λ ms. Least (map worth ms) l n) e a) b in
-          yes s.0 s.1;
-      same_answer = λ e. yes (p.0 ∙ ap (λ x. x.0) e ∙ sym q.0) (p.1 ∙ ap (λ x. x.1) e ∙ sym q.1);
+          g s.0 s.1;
+      same_answer = λ e. g (p.0 ∙ ap (λ x. x.0) e ∙ sym q.0) (p.1 ∙ ap (λ x. x.1) e ∙ sym q.1);
       exact = λ e.
-          let s = and_parts (int_eq l l') (eqb n n') e in
-          let u : (least_of xs).0 ≡ (least_of ys).0 = sym p.0 ∙ int_eq_says l l' s.0 ∙ q.0 in
-          let v : (least_of xs).1 ≡ (least_of ys).1 = sym p.1 ∙ eqb-true n n' s.1 ∙ q.1 in
+          let s = f e in
+          let u : (least_of xs).0 ≡ (least_of ys).0 = sym p.0 ∙ s.0 ∙ q.0 in
+          let v : (least_of xs).1 ≡ (least_of ys).1 = sym p.1 ∙ s.1 ∙ q.1 in
           λ i. (u i, v i);
     }

@@ -1,8 +1,10 @@
 -- The plain row: its marks added up one after another, from the newest backwards.
-use Rattle.std.proofs.Common.{◌≡◌, ◌+◌, ◌≤◌, true, List, [], ◌∷◌, ◌++◌, map, length, sym, ap, ◌∙◌, subst, rules, arith}
-use Rattle.std.proofs.lemmas.List.{length-map, length-append, append_assoc}
+use Rattle.std.proofs.Common.{◌≡◌, ℕ, ◌+◌, ◌-◌, ◌<◌, ◌≤◌, true, List, [], ◌∷◌, ◌++◌, map, length, get_or, take, pos, negsuc, ◌≤ℤ◌, sym, ap, ◌∙◌, subst, rules, arith}
+use Rattle.std.proofs.lemmas.Int.{ints}
+use Rattle.std.proofs.lemmas.List.{length-map, length-append, length-take-le, append_assoc, get_or-take, get_or-map}
 use Rattle.terms.specs.Marks.{Least}
 use Rattle.rows.specs.declared.mark.Mark.{Mark}
+use Rattle.rows.specs.declared.mark.Mark.TheVariants.{Plus, Minus}
 use Rattle.rows.specs.declared.marks.Marks.{Marks}
 use Rattle.rows.specs.Laws.{limit}
 use Rattle.rows.specs.Marks.{leaf_of, no_marks, marks_joined, marks_valid}
@@ -47,3 +49,21 @@ module _ (xs front : List Mark) (m : Mark) (s : Marks) (a : Adding xs (front ++ 
 
 pub adding_all : (xs : List Mark) (s : Marks) → Adding xs [] s → Least (map worth xs) s.least s.span
 adding_all xs s a = let t = a.tells in subst (λ ms. Least (map worth ms) s.least s.span) a.parts t.least_is
+
+-- marks and their worth
+pub worth_low : (m : Mark) → negsuc 0 ≤ℤ worth m
+worth_low Plus = omega (arith, ints)
+worth_low Minus = omega (arith, ints)
+
+pub worth_high : (m : Mark) → worth m ≤ℤ pos 1
+worth_high Plus = omega (arith, ints)
+worth_high Minus = omega (arith, ints)
+
+-- a mark of the row, counted from the newest
+pub mark_at : (xs : List Mark) (len n : ℕ) → len ≤ length xs → n < len → worth (get_or xs (len - 1 - n) Plus) ≡ get_or (map worth (take len xs)) (length (map worth (take len xs)) - 1 - n) (pos 0)
+mark_at xs len n h b =
+    let t = length-take-le len xs h in
+    let l : length (map worth (take len xs)) ≡ len = length-map (take len xs) worth ∙ t in
+    ap worth (sym (get_or-take len xs (len - 1 - n) Plus (omega arith)))
+    ∙ sym (get_or-map worth (take len xs) (len - 1 - n) Plus (pos 0) (omega arith))
+    ∙ ap (λ k. get_or (map worth (take len xs)) (k - 1 - n) (pos 0)) (sym l)

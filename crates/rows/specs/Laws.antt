@@ -1,5 +1,5 @@
 -- What a summary owes, and what a row of summaries comes to.
-use Rattle.std.specs.Prelude.{◌≡◌, ℕ, ◌+◌, ◌*◌, ◌^◌, ◌<◌, ◌≤◌, Bool, true, List, [], ◌∷◌, ◌++◌, length, take, drop, slice_index_or}
+use Rattle.std.specs.Prelude.{◌≡◌, ℕ, ◌+◌, ◌*◌, ◌/◌, ◌^◌, ◌<◌, ◌≤◌, Bool, true, List, [], ◌∷◌, ◌++◌, length, take, drop, slice_index_or}
 use Rattle.terms.specs.Limits.{widest_row}
 
 -- the largest joined size up to which brackets do not matter
@@ -43,13 +43,18 @@ pub record Kept {M : Type 0} (empty : M) (joined : M → M → M) (size : M → 
 abbrev pub TreeSize : ℕ → Type 0
 TreeSize n = (depth : ℕ) × (n ≡ 2 * 2 ^ depth)
 
--- what a tree of n nodes is
+-- What a tree of n nodes is. Node 0 stands for nothing and stays empty, so that the leaves decide all nodes.
 pub record Grown {M : Type 0} (empty : M) (joined : M → M → M) (size : M → ℕ) (valid : M → Bool)
     (n : ℕ) (nodes : List M) : Type 0 where
   pub depth : ℕ
   pub shape : n ≡ 2 * 2 ^ depth
   pub long : length nodes ≡ n
+  pub unused : slice_index_or nodes 0 empty ≡ empty
   pub kept : Kept empty joined size valid depth nodes
+
+-- trees of n nodes with the same leaves have the same nodes, all of them
+abbrev pub LeavesDecide : {M : Type 0} (empty : M) (joined : M → M → M) (size : M → ℕ) (valid : M → Bool) → ℕ → Type 0
+LeavesDecide {M} empty joined size valid n = (xs ys : List M) → Grown empty joined size valid n xs → Grown empty joined size valid n ys → drop (n / 2) xs ≡ drop (n / 2) ys → xs ≡ ys
 
 -- r is the place, in a ring of len, of what stands at places after its first
 pub record Wrapped (at len r : ℕ) : Type 0 where

@@ -4,10 +4,10 @@ ghost use Rattle.rows.specs.Props.{lamp_kept_prop};
 
 use crate::lamp::Lamp;
 use crate::tree::{Tree, wrap};
-use terms::limits::LAMP_LENGTH;
+use terms::limits::{LAMP_DEPTH, LAMP_LENGTH};
 
-// A constant beside the length, since a const argument cannot be computed.
-const LAMP_NODES: usize = 2 * LAMP_LENGTH;
+// A constant beside the depth, since a const argument cannot be computed.
+const LAMP_NODES: usize = 2 << LAMP_DEPTH;
 
 // The newest answers, each a gap and a step, as a ring whose oldest stands at `head`.
 #[derive(Drop)]

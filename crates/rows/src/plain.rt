@@ -49,7 +49,7 @@ impl Row for PlainRow {
     fn least(&self) -> (i32, u32) {
         let mut all = Marks::none();
         for m in self.items.as_slice().iter().rev() {
-            all = Marks::join(Marks::from(*m), all);
+            all = all.with_older(*m);
         }
         (all.least, all.span)
     }

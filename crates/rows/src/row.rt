@@ -33,11 +33,13 @@ pub trait Row: Sized + Drop {
 }
 
 // Whether two rows answer alike. Rows of the same marks do, whatever their make.
-#[tactic(auto, using(crate::proofs::OneLeast::alike))]
 pub fn same_least<A: Row, B: Row>(a: &A, b: &B) -> bool
     ensures { Alike (A.Row.marks a.now) (B.Row.marks b.now) result }
 {
-    a.least() == b.least()
+    // Part by part: as pairs they are equal to a proof in one way of writing alone.
+    let (least, span) = a.least();
+    let (least_too, span_too) = b.least();
+    least == least_too && span == span_too
 }
 
 // Exactly one pair is the least sum of some marks and its span.

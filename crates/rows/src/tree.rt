@@ -1,5 +1,5 @@
 ghost use Rattle.std.specs.Prelude.{◌≡◌, ℕ, ◌*◌, ◌/◌, ◌<◌, ◌≤◌, true, length, drop, replicate, slice_index_or, slice_set};
-ghost use Rattle.rows.specs.Laws.{Grown, TreeSize, Wrapped, limit, ring, sizes, all_joined};
+ghost use Rattle.rows.specs.Laws.{Grown, LeavesDecide, TreeSize, Wrapped, limit, ring, sizes, all_joined};
 
 use crate::summary::Summary;
 use std::marker::Model;
@@ -88,6 +88,11 @@ impl<T: Summary, const NODES: usize> Tree<T, NODES> {
         T::join(older, newer)
     }
 }
+
+// The leaves decide all nodes: what a contract sees of a tree is all of it.
+pub(crate) fn leaves_decide<T: Summary, const NODES: usize>()
+    ensures { LeavesDecide T.empty T.joined T.size T.valid NODES }
+{}
 
 // A place of a ring of `len`, counted on past its end: at most once round, so a comparison does.
 pub(crate) fn wrap(at: usize, len: usize) -> usize

@@ -11,11 +11,11 @@ use crate::refusals::{lift_refused, start_refused};
 use crate::row::Row;
 use crate::summary::Summary;
 use crate::tree::{Tree, wrap};
-use terms::limits::WIDEST_ROW;
+use terms::limits::{ROW_DEPTH, WIDEST_ROW};
 use terms::refusal::Refusal;
 
-// A constant beside the width, since a const argument cannot be computed.
-const ROW_NODES: usize = 2 * WIDEST_ROW;
+// A constant beside the depth, since a const argument cannot be computed.
+const ROW_NODES: usize = 2 << ROW_DEPTH;
 
 // A row that keeps its marks in the leaves of a tree, as a ring whose oldest mark stands at `head`. Only `len` leaves
 // are in use, since the memory is fixed.

@@ -10,5 +10,5 @@ returns c =
     let n = c.args.count in
     let p = sym c.start_refused.ensures ∙ c.in_ok-start_refused.was in
     record {
-      exact = (start_passed n p, c.truncate.ensures.items ∙ ap (take n) c.from-self.ensures.0 ∙ take-replicate n widest_row Plus (start_allowed n p));
+      exact = (start_passed n p, c.truncate.ensures.items ∙ ap (take n) c.from-self.ensures.0 ∙ take-replicate n widest_row Plus (start_allowed n p).1);
     }

@@ -7,7 +7,7 @@ use Rattle.rows.proofs.tree_row.TreeRowRow.start.Goals as goal
 pub from_leaves-requires : goal.from_leaves-requires
 from_leaves-requires c =
     let n = c.args.count in
-    let few = start_allowed n (sym c.start_refused.ensures ∙ c.in_ok-start_refused.was) in
+    let few = (start_allowed n (sym c.start_refused.ensures ∙ c.in_ok-start_refused.was)).1 in
     let none = c.none-leaves.ensures in
     let xs = c.fill_front.new.leaves in
     let is = c.fill_front.ensures in (
@@ -24,7 +24,7 @@ from_leaves-requires c =
 pub invariant_of-self : goal.invariant_of-self
 invariant_of-self c =
     let n = c.args.count in
-    let few = start_allowed n (sym c.start_refused.ensures ∙ c.in_ok-start_refused.was) in
+    let few = (start_allowed n (sym c.start_refused.ensures ∙ c.in_ok-start_refused.was)).1 in
     record { kept = started_kept n few _ c.none-leaves.ensures c.fill_front.new.leaves c.fill_front.ensures c.from_leaves.result c.from_leaves.ensures }
 
 pub returns : goal.returns
@@ -34,6 +34,6 @@ returns c =
     record {
       exact = (
         start_passed n p,
-        started_shows n (start_allowed n p) _ c.none-leaves.ensures c.fill_front.new.leaves c.fill_front.ensures c.from_leaves.result c.from_leaves.ensures,
+        started_shows n (start_allowed n p).1 _ c.none-leaves.ensures c.fill_front.new.leaves c.fill_front.ensures c.from_leaves.result c.from_leaves.ensures,
       );
     }
