@@ -55,6 +55,9 @@ hears_none m = record {
   from_nothing = λ e. (e, refl);
 }
 
+pub hears_list : (m m' : Memory) (t t' : List ℕ) (a : ℕ) → t ≡ t' → HearsAll m t m' a → HearsAll m t' m' a
+hears_list m m' t t' a e k = subst (λ v. HearsAll m v m' a) e k
+
 pub hears_more : (m₀ m m' : Memory) (t t' : List ℕ) (x a b : ℕ) → t' ≡ t ++ (x ∷ []) → HearsAll m₀ t m a → Hears m x m' b → HearsAll m₀ t' m' b
 hears_more m₀ m m' t t' x a b w k h = subst (λ v. HearsAll m₀ v m' b) (sym w) (record {
   from_empty_end = λ p q e. listened_on q p t m m' x a b h (k.from_empty_end p q e);

@@ -1,7 +1,7 @@
 -- A window slides, and what a sliding reader then means.
-use Rattle.std.proofs.Common.{◌≡◌, ℕ, ◌+◌, ◌*◌, ◌%◌, ◌^◌, ◌<◌, ◌==◌, min, List, [], ◌∷◌, ◌++◌, length, get_or, Some, None, Option, refl, sym, ap, ◌∙◌, subst, inl, inr, arith}
+use Rattle.std.proofs.Common.{◌≡◌, ℕ, ◌+◌, ◌*◌, ◌%◌, ◌^◌, ◌<◌, ◌≤◌, Bool, true, false, min, List, [], ◌∷◌, ◌++◌, length, get_or, Some, None, Option, refl, sym, ap, ◌∙◌, subst, inl, inr, arith}
 use Rattle.std.specs.Bool.{then_some}
-use Rattle.std.proofs.lemmas.Bool.{cases_lt, cases_eq, eq-eqb, ne_eqb}
+use Rattle.std.proofs.lemmas.Bool.{cases_lt, cases_Bool}
 use Rattle.terms.specs.Figures.{figures}
 use Rattle.terms.specs.Codes.{code}
 use Rattle.terms.specs.Limits.{most_numbers}
@@ -54,19 +54,22 @@ module _ (w : Window) (x h : ℕ) (d : x < w.scale.base) (e : h ≡ min (w.heard
             rw g (slid_full s.base s.width s.power w.number w.heard x s.based s.wide f m s.powered d)
       ]
 
-  -- it answers its number where it is full
-  pub filled_on : (r : Option ℕ) → r ≡ then_some (h == w.scale.width) (w.number % w.scale.power * w.scale.base + x)
+  -- it answers its number where it is full, whatever test says so
+  pub filled_on : (b : Bool) → (b ≡ true → w.scale.width ≤ h) → (b ≡ false → h < w.scale.width) → (r : Option ℕ)
+      → r ≡ then_some b (w.number % w.scale.power * w.scale.base + x)
       → Filled w.scale.base w.scale.width (digits w.scale.base h (w.number % w.scale.power * w.scale.base + x)) r
-  filled_on r i =
+  filled_on b full short r i =
       let c = w.scale.base in
       let n = w.number % w.scale.power * c + x in
-      elim (cases_eq h w.scale.width) [
-        | inl f ↦
-            let g : r ≡ Some n = i ∙ ap (λ v. then_some v n) (eq-eqb h w.scale.width f) in
+      elim (cases_Bool b) [
+        | inl t ↦
+            let k = full t in
+            let f : h ≡ w.scale.width = omega arith in
+            let g : r ≡ Some n = i ∙ ap (λ v. then_some v n) t in
             subst (Filled c w.scale.width (digits c h n)) (sym g) (subst (λ v. n < c ^ v) f below_on, ap (λ v. digits c v n) (sym f))
-        | inr f ↦
-            let g : r ≡ None = i ∙ ap (λ v. then_some v n) (ne_eqb h w.scale.width f) in
-            subst (Filled c w.scale.width (digits c h n)) (sym g) (let d = length_digits c h n in omega arith)
+        | inr t ↦
+            let g : r ≡ None = i ∙ ap (λ v. then_some v n) t in
+            subst (Filled c w.scale.width (digits c h n)) (sym g) (let d = length_digits c h n in let k = short t in omega arith)
       ]
 
 module _ (p : List ℕ) (k : Coder) (t : Tally) (w w' : Window) (x : ℕ) (s : Slides p w.scale k t) (es : w'.scale ≡ w.scale)

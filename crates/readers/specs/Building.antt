@@ -25,7 +25,7 @@ module _ (p : List ℕ) (n i : ℕ) (s : Node) (N N' : ℕ → Node) (g : Grown 
   new_run : run p (N' n) ≡ run p s
   new_run = ap (run p) g.new
 
-  childless_back : (j x : ℕ) → Childless (n + 1) N' j x → Childless n N j x
+  pub childless_back : (j x : ℕ) → Childless (n + 1) N' j x → Childless n N j x
   childless_back j x c k z h e f = c k z (omega arith) ((g.alike k h).parent ∙ e) ((g.alike k h).sound ∙ f)
 
   pub stands_grown : (l b j : ℕ) → Stands p n N l b j → Stands p (n + 1) N' l b j

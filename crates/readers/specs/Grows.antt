@@ -99,7 +99,7 @@ module _ (n i : ℕ) (s : Node) (N N' : ℕ → Node) (g : Grown n i s N N') (t 
       let f = ap (λ v. (N' v).next) h ∙ new_next in
       omega arith
 
-  tree_grown : Tree (n + 1) N'
+  pub tree_grown : Tree (n + 1) N'
   tree_grown = record {
     parent_in = λ j z h. parent_in j z (up n j h);
     first_in = λ j h. first_in j (up n j h);
@@ -117,7 +117,7 @@ linked ss i = slice_set ss i (with_child (slice_index_or ss i blank) (length ss)
 pub length_grown : (ss : List State) (i : ℕ) (s : State) → length (grown ss i s) ≡ length ss + 1
 length_grown ss i s = length_push (linked ss i) s ∙ ap (λ v. v + 1) (length-set ss i (with_child (slice_index_or ss i blank) (length ss)))
 
-grown_new : (ss : List State) (i : ℕ) (s : State) → slice_index_or (grown ss i s) (length ss) blank ≡ s
+pub grown_new : (ss : List State) (i : ℕ) (s : State) → slice_index_or (grown ss i s) (length ss) blank ≡ s
 grown_new ss i s = get_or_push (linked ss i) s blank (length ss) (length-set ss i (with_child (slice_index_or ss i blank) (length ss)))
 
 grown_old : (ss : List State) (i : ℕ) (s : State) (k : ℕ) → k < length ss → slice_index_or (grown ss i s) k blank ≡ slice_index_or (linked ss i) k blank
@@ -125,10 +125,10 @@ grown_old ss i s k h =
     let l = length-set ss i (with_child (slice_index_or ss i blank) (length ss)) in
     get_or_append_left (linked ss i) (s ∷ []) blank k (omega arith)
 
-grown_here : (ss : List State) (i : ℕ) (s : State) → i < length ss → slice_index_or (grown ss i s) i blank ≡ with_child (slice_index_or ss i blank) (length ss)
+pub grown_here : (ss : List State) (i : ℕ) (s : State) → i < length ss → slice_index_or (grown ss i s) i blank ≡ with_child (slice_index_or ss i blank) (length ss)
 grown_here ss i s h = grown_old ss i s i h ∙ get_or-set_same ss i (with_child (slice_index_or ss i blank) (length ss)) blank h
 
-grown_other : (ss : List State) (i : ℕ) (s : State) (k : ℕ) → k < length ss → (k ≢ i) → slice_index_or (grown ss i s) k blank ≡ slice_index_or ss k blank
+pub grown_other : (ss : List State) (i : ℕ) (s : State) (k : ℕ) → k < length ss → (k ≢ i) → slice_index_or (grown ss i s) k blank ≡ slice_index_or ss k blank
 grown_other ss i s k h e = grown_old ss i s k h ∙ get_or-set_other ss i k (with_child (slice_index_or ss i blank) (length ss)) blank e
 
 same_but_child : (a b c : State) → a ≡ b → (j : ℕ) → b ≡ with_child c j → Alike (node a) (node c)

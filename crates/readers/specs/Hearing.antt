@@ -70,6 +70,13 @@ module _ (p : List ℕ) (q here : ℕ) (ss : List State) (counts : List ℕ) (k 
       let no' : Run (x ∷ []) p → length (x ∷ []) ≤ q → ⊥ = subst (λ v. Run (v ++ (x ∷ [])) p → length (v ++ (x ∷ [])) ≤ q → ⊥) f no in
       e ∙ sym (none q p x (λ u. no' u s)) ∙ ap (λ v. remembered q p (v ++ (x ∷ []))) (sym f)
 
+  -- the reader stands at another state
+  pub at_state : (j : ℕ) → j < length ss → Keeps p q j ss counts
+  at_state j h = record { some = k.some; inside = h; runs = k.runs; short = k.short; complete = k.complete; codes = k.codes; counted = k.counted }
+
+  pub at_root : Keeps p q 0 ss counts
+  at_root = at_state 0 k.runs.some
+
   -- a state is a run of the phrase, at most q long
   pub whole_state : (length (run p (nodes ss here)) ≤ q) × Run (run p (nodes ss here)) p
   whole_state =

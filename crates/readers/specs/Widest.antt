@@ -6,7 +6,7 @@ use Rattle.std.proofs.lemmas.Bool.{cases_eq, leb-true, leb-false, le-leb, lt-leb
 use Rattle.readers.specs.Window.{widest, sliding_reach_lem, Largest}
 use Rattle.terms.specs.Limits.{longest_figure, most_numbers}
 
-widest_most : (c k : ℕ) → widest c k ≤ k
+pub widest_most : (c k : ℕ) → widest c k ≤ k
 unfolding widest
 widest_most c zero = omega arith
 widest_most c (suc k) = go (nat_le (c ^ suc k) most_numbers) (widest_most c k)
@@ -15,7 +15,7 @@ widest_most c (suc k) = go (nat_le (c ^ suc k) most_numbers) (widest_most c k)
     go true h = omega arith
     go false h = omega arith
 
-widest_some : (c k : ℕ) → c ≤ most_numbers → 1 ≤ widest c (suc k)
+pub widest_some : (c k : ℕ) → c ≤ most_numbers → 1 ≤ widest c (suc k)
 unfolding widest
 widest_some c zero h =
     let e : c ^ suc zero ≤ most_numbers = let p = pow-suc c zero in let q = ap (λ v. v * c) (pow-zero c) in let r = one-mul c in omega arith in
@@ -26,7 +26,7 @@ widest_some c (suc k) h = go (nat_le (c ^ suc (suc k)) most_numbers) (widest_som
     go true i = omega arith
     go false i = i
 
-widest_fits : (c k : ℕ) → c ^ widest c k ≤ most_numbers
+pub widest_fits : (c k : ℕ) → c ^ widest c k ≤ most_numbers
 unfolding widest
 widest_fits c zero = let p = pow-zero c in omega arith
 widest_fits c (suc k) = go (nat_le (c ^ suc k) most_numbers) refl (widest_fits c k)
@@ -36,7 +36,7 @@ widest_fits c (suc k) = go (nat_le (c ^ suc k) most_numbers) refl (widest_fits c
     go false e h = h
 
 -- what fits, where one more does not
-widest_is : (c w k : ℕ) → 0 < c → w ≤ k → c ^ w ≤ most_numbers → ((w ≡ k) ⊎ (most_numbers < c ^ (w + 1))) → widest c k ≡ w
+pub widest_is : (c w k : ℕ) → 0 < c → w ≤ k → c ^ w ≤ most_numbers → ((w ≡ k) ⊎ (most_numbers < c ^ (w + 1))) → widest c k ≡ w
 unfolding widest
 widest_is c w zero z l f o = omega arith
 widest_is c w (suc k) z l f o = elim (cases_eq w (suc k)) [

@@ -47,6 +47,16 @@ pub struct Holder<K> {
     kept: Option<K>,
 }
 
+impl<K: Keeper> Holder<K> {
+    // Holds a phrase that is not refused. Apart from `load`: a refused load would pay for the room of what is held.
+    fn hold(&mut self, phrase: &[u32], q: usize, c: u32)
+        requires { load_refusal (K.Keeper.reaches c) phrase.now q c ≡ None }
+        ensures { held_or_nothing K.Keeper.memory self.new.kept ≡ held phrase.now q [] }
+    {
+        self.kept = Some(K::new(phrase, q, c));
+    }
+}
+
 impl<K: Keeper> Reader for Holder<K> {
     ghost memory = { λ s. held_or_nothing K.memory s.kept };
 
@@ -70,7 +80,7 @@ impl<K: Keeper> Reader for Holder<K> {
 
     fn load(&mut self, phrase: &[u32], q: usize, c: u32) -> Result<(), Refusal> {
         judge(phrase, q, c, K::reach(c))?;
-        self.kept = Some(K::new(phrase, q, c));
+        self.hold(phrase, q, c);
         Ok(())
     }
 

@@ -112,6 +112,6 @@ impl Keeper for Slider {
 
     #[tactic(auto, using(crate::proofs::Windows::memory_empty))]
     fn forget(&mut self) {
-        self.window = Window::new(self.window.scale);
+        self.window.clear();
     }
 }

@@ -68,13 +68,12 @@ impl Keeper for Walker {
     }
 
     fn new(phrase: &[u32], q: usize, _c: u32) -> Walker {
-        let sounds = ArrayVec::try_from(phrase).unwrap();
-        let (table, counts) = Unnumbered::build(phrase, q).number();
+        let coded = Unnumbered::build(phrase, q).number();
         Walker {
-            sounds,
+            sounds: ArrayVec::try_from(phrase).unwrap(),
             q,
-            table,
-            counts,
+            table: coded.0,
+            counts: coded.1,
             here: 0,
         }
     }

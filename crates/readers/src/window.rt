@@ -30,6 +30,16 @@ impl Window {
         }
     }
 
+    // Empties the window. The scale stays where it is: a new window would move it too.
+    #[tactic(auto, unfolding(crate::specs::Window::digits))]
+    pub(crate) fn clear(&mut self)
+        ensures scale { self.new.scale ≡ self.old.scale }
+        ensures empty { shown self.new ≡ [] }
+    {
+        self.number = 0;
+        self.heard = 0;
+    }
+
     // Adds a sound, drops the oldest where there are too many, and answers the number of a full window. A sound that is
     // no digit empties the window.
     pub(crate) fn slide(&mut self, sound: u32) -> Option<usize>
@@ -39,7 +49,7 @@ impl Window {
     {
         let digit = sound as usize;
         if digit >= self.scale.base {
-            *self = Window::new(self.scale);
+            self.clear();
             return None;
         }
         self.number = self.number % self.scale.power * self.scale.base + digit;

@@ -22,7 +22,8 @@ pub add-requires-clause-room : goal.add-requires-clause-room
 add-requires-clause-room c =
     let r = room c.loop-len.len (omega arith) in
     let k = c.loop-at.invariant.room in
-    omega (arith, length-drop c.loop-len.len c.args.phrase.now)
+    let h : c.loop-at.at + c.loop-len.len < length c.args.phrase.now = grind (arith, common_steps) in
+    omega arith
 
 pub loop-at-preserved : goal.loop-at-preserved
 loop-at-preserved c =
@@ -31,7 +32,7 @@ loop-at-preserved c =
     let at = c.loop-at.at in
     let ps = c.loop-at.places in
     let i = c.loop-at.invariant in
-    let hp : at + len < length ph = omega (arith, length-drop len ph) in
+    let hp : at + len < length ph = grind (arith, common_steps) in
     let hl : at < length ps = (let k = i.long in omega arith) in
     elim c.match-find.branch [
       | in-Some w ↦
@@ -57,7 +58,7 @@ loop-len-preserved c =
     let len = c.loop-len.len in
     let t = c.loop-at.table in
     let i = c.loop-at.invariant in
-    let e : c.loop-at.at ≡ length ph - len = omega (arith, length-drop len ph) in
+    let e : c.loop-at.at ≡ length ph - len = grind (arith, common_steps) in
     let b = subst (λ a. Built ph len a (len + 1) (length t.states.items) (nodes t.states.items) c.loop-at.places) e i.built in
     record {
       built = finish _ _ _ _ _ t.tree (omega arith) b;

@@ -1,4 +1,5 @@
-use Rattle.std.proofs.Common.{arith}
+use Rattle.std.proofs.Common.{arith, rules}
+use borrow.Author.Tests.{tests}
 use Rattle.readers.proofs.Digits.{power_some}
 use Rattle.readers.proofs.Windows.{number_fits, below_on, slid_on, filled_on}
 use Rattle.readers.proofs.window.Window.slide.Goals as goal
@@ -19,4 +20,6 @@ pub returns-clause-slid : goal.returns-clause-slid
 returns-clause-slid c = slid_on c.args.self.now c.args.sound _ c.if-digit-self.false c.min-self.ensures
 
 pub returns-clause-filled : goal.returns-clause-filled
-returns-clause-filled c = filled_on c.args.self.now c.args.sound _ c.if-digit-self.false c.min-self.ensures _ c.then_some.ensures
+returns-clause-filled c =
+    let e = c.min-self.ensures in
+    filled_on c.args.self.now c.args.sound _ c.if-digit-self.false e _ (λ t. search (rules, tests)) (λ t. search (rules, tests)) _ c.then_some.ensures
