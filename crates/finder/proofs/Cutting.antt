@@ -13,6 +13,16 @@ use Rattle.std.specs.Borrow.{Bor}
 use Rattle.readers.specs.Memory.{Memory}
 use Rattle.rows.specs.declared.mark.Mark.{Mark}
 
+-- a cut hands on what turns its view away
+pub refused_first : (n k s p : ℕ) (e : Refusal) → view_refusal n k ≡ Some e → cut_refusal n k s p ≡ Some e
+refused_first n k s p e h = go (not (eqb k n)) (eqb n 0) h
+  where
+    go : (a b : Bool) → first_of (when a OtherLength ∷ when b NoBest ∷ []) ≡ Some e
+        → first_of (when a OtherLength ∷ when b NoBest ∷ when (ltb p s) ShortPattern ∷ []) ≡ Some e
+    go true b i = i
+    go false true i = i
+    go false false i = absurd (let z : ◌≡◌ {A = ℕ} 0 1 = cc in omega arith)
+
 then_short : (n k s p : ℕ) → view_refusal n k ≡ None → cut_refusal n k s p ≡ first_of (when (ltb p s) ShortPattern ∷ [])
 then_short n k s p h = go (not (eqb k n)) (eqb n 0) h
   where

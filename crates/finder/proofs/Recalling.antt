@@ -1,13 +1,14 @@
 -- The rings after a take say which codes of the row are the oldest.
-use Rattle.std.proofs.Common.{◌≡◌, ℕ, zero, suc, ◌+◌, ◌-◌, ◌<◌, ◌≤◌, List, [], ◌∷◌, ◌++◌, map, length, replicate, sym, refl, ap, ◌∙◌, subst, inl, inr, append_assoc, append-nil, add-zero, arith}
-use Rattle.std.proofs.lemmas.List.{length_push, length-drop, length-append, length-replicate}
+use Rattle.std.proofs.Common.{◌≡◌, ℕ, zero, suc, ◌+◌, ◌-◌, ◌<◌, ◌≤◌, List, [], ◌∷◌, ◌++◌, map, length, get_or, set, take, replicate, sym, refl, ap, ◌∙◌, subst, inl, inr, append_assoc, append-nil, add-zero, arith}
+use Rattle.std.proofs.lemmas.List.{length_push, map_push, take_more_set, length-drop, length-append, length-replicate}
 use Rattle.std.proofs.lemmas.Bool.{cases_eq, eq-eqb, ne_eqb}
 use Rattle.terms.specs.Limits.{longest_phrase}
 use Rattle.terms.specs.Figures.{figures}
 use Rattle.terms.specs.Codes.{push, heard, count_of, codes_at, code}
 use Rattle.terms.proofs.Coded.{window_step, every_step}
-use Rattle.finder.specs.Recent.{laid, recalled, rings_on, codes_on, rings_at}
+use Rattle.finder.specs.Recent.{before, no_ring, rings_to, laid, rewound, emptied, ring_of, wrap, recalled, rings_on, codes_on, rings_at}
 use Rattle.finder.specs.declared.recent.Recent.{Recent}
+use Rattle.finder.specs.declared.recent.Ring.{Ring}
 use Rattle.finder.proofs.Rings.{Recalls, fresh, passed, recalls}
 use Rattle.finder.proofs.Counted.{counts_of, before_few}
 
@@ -42,6 +43,45 @@ rings_step q p t x =
 pub rings_start : (q : ℕ) (p : List ℕ) → rings_at q p [] ≡ laid (count_of (figures q p))
 unfolding rings_on codes_on
 rings_start q p = refl
+
+-- where the rings lie does not change
+abbrev with_rings : List Ring → Recent
+with_rings rs = record { steps = replicate longest_phrase 0; rings = rs }
+
+pub rewound_set : (rs : List Ring) (i n : ℕ) → map rewound (set rs i (record { first = (get_or rs i no_ring).first; next = n })) ≡ map rewound rs
+rewound_set [] i n = refl
+rewound_set (r ∷ rs) zero n = refl
+rewound_set (r ∷ rs) (suc i) n = ap (λ zs. rewound r ∷ zs) (rewound_set rs i n)
+
+pub rewound_next : (rs : List Ring) (i a : ℕ) → i < length rs → take i rs ≡ map rewound (take i rs)
+    → take (i + 1) (set rs i (record { first = a; next = 0 })) ≡ map rewound (take (i + 1) (set rs i (record { first = a; next = 0 })))
+rewound_next rs i a lt k =
+    let g : Ring = record { first = a; next = 0 } in
+    let more = take_more_set rs i g lt in
+    more ∙ ap (λ zs. zs ++ (g ∷ [])) k ∙ sym (map_push rewound (take i rs) g) ∙ sym (ap (map rewound) more)
+
+recalled_emptied : (f : ℕ → ℕ) (r : Recent) (n c : ℕ) → emptied (recalled f r n c) ≡ emptied r
+recalled_emptied f r n c = elim (cases_eq (f c) 0) [
+  | inl e ↦ rw (eq-eqb (f c) 0 e)
+  | inr e ↦ rw (ne_eqb (f c) 0 e) (ap with_rings (rewound_set r.rings (c - 1) (wrap (ring_of r.rings c).next (f c) + 1)))
+]
+
+on_emptied : (f : ℕ → ℕ) (n : ℕ) (r : Recent) (cs : List ℕ) → emptied (rings_on f n r cs) ≡ emptied r
+unfolding rings_on
+on_emptied f n r [] = refl
+on_emptied f n r (c ∷ cs) = on_emptied f (n + 1) (recalled f r (n + 1) c) cs ∙ recalled_emptied f r (n + 1) c
+
+rewound_laid : (f : ℕ → ℕ) (n : ℕ) → map rewound (rings_to f n) ≡ rings_to f n
+unfolding rings_to
+rewound_laid f zero = refl
+rewound_laid f (suc n) =
+    let g : Ring = record { first = before f n; next = 0 } in
+    map_push rewound (rings_to f n) g ∙ ap (λ zs. zs ++ (g ∷ [])) (rewound_laid f n)
+
+pub rings_emptied : (q : ℕ) (p t : List ℕ) → emptied (rings_at q p t) ≡ laid (count_of (figures q p))
+rings_emptied q p t =
+    let f = count_of (figures q p) in
+    on_emptied f 0 (laid f) (codes_on q p [] t) ∙ ap with_rings (rewound_laid f longest_phrase)
 
 recall_step : (r : Recent) (n : ℕ) (f : ℕ → ℕ) (cs : List ℕ) (c : ℕ) → 0 < length cs → Recalls r n f cs → Recalls (recalled f r (n + 1) c) (n + 1) f (push c cs)
 recall_step r n f cs c some k = elim (cases_eq (f c) 0) [

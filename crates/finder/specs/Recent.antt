@@ -1,6 +1,6 @@
 -- The rings of recent steps: for each code the numbers of the last steps at which it was heard, as many as its figure
 -- stands in the phrase.
-use Rattle.std.specs.Prelude.{ℕ, zero, suc, ◌+◌, ◌-◌, cond, ◌||◌, List, [], ◌∷◌, ◌++◌, replicate, Some, None, Option, ◌==◌, nat_lt, slice_index_or, slice_set}
+use Rattle.std.specs.Prelude.{ℕ, zero, suc, ◌+◌, ◌-◌, cond, ◌||◌, List, [], ◌∷◌, ◌++◌, map, replicate, Some, None, Option, ◌==◌, nat_lt, slice_index_or, slice_set}
 use Rattle.terms.specs.Limits.{longest_phrase}
 use Rattle.terms.specs.Figures.{figures}
 use Rattle.terms.specs.Codes.{heard, count_of}
@@ -23,6 +23,14 @@ rings_to f (suc n) = rings_to f n ++ (record { first = before f n; next = 0 } �
 -- the rings before the first step; 0 stands for no step
 abbrev pub laid : (ℕ → ℕ) → Recent
 laid f = record { steps = replicate longest_phrase 0; rings = rings_to f longest_phrase }
+
+-- a ring that is written from its first place on again
+abbrev pub rewound : Ring → Ring
+rewound g = record { first = g.first; next = 0 }
+
+-- the same rings without any step
+abbrev pub emptied : Recent → Recent
+emptied r = record { steps = replicate longest_phrase 0; rings = map rewound r.rings }
 
 -- the ring of the code h
 abbrev pub ring_of : List Ring → ℕ → Ring

@@ -71,11 +71,15 @@ pub record Fresh {S : Type 0} (m : Memory) (t : Progress S) : Type 0 where
   pub lamp : answers t.lamp ≡ []
 
 module _ {S R M : Type 0} (sound : S → ℕ) (memory : R → Memory) (marks : M → List Mark) where
-  -- a new take begins on a phrase of the lengths l, with the reader as it is
+  -- a new take begins on a phrase of the lengths l, with the reader and the rings as they are
   pub record Begun (s : Slot S R M) (l : Lengths) (t : Slot S R M) : Type 0 where
     pub reader : t.reader ≡ s.reader
     pub lengths : t.lengths ≡ Some l
-    pub progress : Fresh (memory s.reader) t.progress
+    pub rings : t.progress.recent ≡ s.progress.recent
+    pub count : t.progress.count ≡ 0
+    pub last : t.progress.last ≡ None
+    pub best : t.progress.best ≡ None
+    pub lamp : answers t.progress.lamp ≡ []
     pub row : marks t.row ≡ replicate (2 * (l.phrase - l.figure + 1)) Plus
 
   -- what a clearing does where there is a phrase, of the lengths l

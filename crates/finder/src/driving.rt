@@ -45,6 +45,7 @@ impl<S: Step, R: Reader, M: Row> Slot<S, R, M> {
         }
         let sounds = sounds_of(phrase);
         self.reader.load(sounds.as_slice(), q, S::SOUNDS)?;
+        self.progress.recent = Recent::for_codes(&self.reader);
         self.begin(Lengths {
             phrase: phrase.len(),
             figure: q,
@@ -63,23 +64,27 @@ impl<S: Step, R: Reader, M: Row> Slot<S, R, M> {
     }
 
     // The same phrase, with nothing heard.
-    #[tactic(auto, using(crate::proofs::Starts::started_over))]
     fn start_over(&mut self, lengths: Lengths)
         ensures { StartedOver S.Step.sound R.Reader.memory M.Row.marks
             self.old lengths self.new }
     {
         self.reader.forget();
+        self.progress.recent.clear();
         self.begin(lengths);
     }
 
-    // A new take on a phrase of these lengths: a row of +1 alone, and nothing tallied.
+    // A new take on a phrase of these lengths: a row of +1 alone, and no step, answer or best. The rings are the caller's:
+    // a clearing empties them in place, where to lay them asks the reader for each code.
     fn begin(&mut self, lengths: Lengths)
         ensures { Begun S.Step.sound R.Reader.memory M.Row.marks
             self.old lengths self.new }
     {
         self.row.start(lengths.width()).unwrap();
         self.lengths = Some(lengths);
-        self.progress = Progress::new(&self.reader);
+        self.progress.last = None;
+        self.progress.best = None;
+        self.progress.lamp = LampRing::new();
+        self.progress.count = 0;
     }
 
     // One step more, and the answer to it.

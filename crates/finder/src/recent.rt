@@ -1,7 +1,7 @@
 ghost use Rattle.std.specs.Prelude.{◌≡◌, ◌<◌, ◌≤◌};
 ghost use Rattle.terms.specs.Limits.{longest_phrase};
 ghost use Rattle.readers.specs.Memory.{counted};
-ghost use Rattle.finder.specs.Recent.{before, laid, wrap, age_at};
+ghost use Rattle.finder.specs.Recent.{before, laid, emptied, wrap, age_at};
 ghost use Rattle.finder.specs.Turns.{Noted};
 
 use crate::turning::Heard;
@@ -40,6 +40,19 @@ impl Recent {
         Recent {
             steps: [0; LONGEST_PHRASE],
             rings,
+        }
+    }
+
+    // Forgets all steps, and keeps where each ring begins.
+    pub(crate) fn clear(&mut self)
+        ensures { self.new ≡ emptied self.old }
+    {
+        self.steps = [0; LONGEST_PHRASE];
+        for ring in self.rings.iter_mut() {
+            *ring = Ring {
+                first: ring.first,
+                next: 0,
+            };
         }
     }
 

@@ -7,7 +7,7 @@ use Rattle.terms.specs.declared.answer.Answer.{Answer}
 use Rattle.readers.specs.Memory.{Memory}
 use Rattle.rows.specs.declared.mark.Mark.{Mark}
 use Rattle.finder.specs.History.{unloaded}
-use Rattle.life.specs.Readings.{Event, given, used, records_used_lem}
+use Rattle.life.specs.Readings.{Event, given, RecordsTold, used, records_used_lem}
 use Rattle.life.specs.Outcomes.{Stage, rolling, Life, new, more}
 use Rattle.life.specs.Promises.{Stands, MakeTold, PerformTold}
 use Rattle.life.specs.declared.calls.Call.{Call}
@@ -86,19 +86,22 @@ module _ {S R M : Type 0} (sound : S → ℕ) (memory : R → Memory) (marks : M
     pub records_behind : drop recorded ts ≡ drop recorded rs
     pub room : (i : ℕ) → i < made → records_used_lem (take i calls) (take i fs) + given (get_or calls i Clear) ≤ length ts
 
--- the call of a turn, which goes over the calls for which there is room
-call_of : {S : Type 0} (calls : List (Call S)) {made room : ℕ} {k : Call S} → room ≤ length calls
-    → made < length (take room calls) → k ≡ get_or (take room calls) made k
-    → (made < length calls) × (made < room) × (k ≡ get_or calls made Clear)
-call_of calls {made} {room} {k} le lt same =
+-- a turn is within the calls for which there is room
+pub turn_within : {A : Type 0} (calls : List A) {made room : ℕ} → room ≤ length calls → made < length (take room calls)
+    → (made < length calls) × (made < room)
+turn_within calls {made} {room} le lt =
     let long = length-take-le room calls le in
-    let below : made < room = omega arith in
-    let here : made < length calls = omega arith in (
-      here,
-      below,
-      get_or_read_under calls made (length calls) k Clear
-          (same ∙ get_or-take room calls made k below) here refl,
-    )
+    let below : made < room = omega arith in (omega arith, below)
+
+-- the call of a turn, as it is read off the calls, and as the loop over those for which there is room hands it out
+pub call_read : {S : Type 0} (calls : List (Call S)) (made : ℕ) (k : Call S) → made < length calls
+    → k ≡ get_or calls made k → k ≡ get_or calls made Clear
+call_read calls made k here same = get_or_read_under calls made (length calls) k Clear same here refl
+
+pub call_handed : {S : Type 0} (calls : List (Call S)) (made room : ℕ) (k : Call S) → made < length calls → made < room
+    → k ≡ get_or (take room calls) made k → k ≡ get_or calls made Clear
+call_handed calls made room k here below same =
+    call_read calls made k here (same ∙ get_or-take room calls made k below)
 
 module _ {S R M : Type 0} {sound : S → ℕ} {memory : R → Memory} {marks : M → List Mark} {reach c : ℕ} where
   pub begun : {calls : List (Call S)} {es : List Event} {rs : List Answer} {t : Take S R M}
@@ -174,27 +177,26 @@ module _ {S R M : Type 0} {sound : S → ℕ} {memory : R → Memory} {marks : M
 
   -- the same, as the code has it
   pub one_call : {calls : List (Call S)} {es : List Event} {rs : List Answer} {t : Take S R M} {made recorded : ℕ}
-      {fs : List Event} {ts : List Answer} {room n u : ℕ} {k : Call S} {v : Take S R M} {e : Event}
+      {fs : List Event} {ts : List Answer} {n u : ℕ} {k : Call S} {v : Take S R M} {e : Event}
       {after : List Answer} → Going sound memory marks reach c calls es rs t made recorded fs ts
-      → room ≤ length calls → room ≤ length fs → made < length (take room calls)
-      → k ≡ get_or (take room calls) made k → n ≡ given k → n ≤ length ts - recorded → u ≡ used (given k) e
+      → made < length calls → made < length fs
+      → RecordsTold k n → k ≡ get_or calls made Clear → n ≤ length ts - recorded → u ≡ used (given k) e
       → MakeTold sound memory marks reach c t k (take (recorded + n - recorded) (drop recorded ts)) (v, e) after
       → Going sound memory marks reach c calls es rs v (made + 1) (recorded + u) (set fs made e)
       (put_mid recorded (recorded + n - recorded) ts after)
-  one_call {calls} {es} {rs} {t} {made} {recorded} {fs} {ts} {room} {n} {u} {k} {v} {e} {after}
-      go le le' lt is lent fits up told =
-      let at = call_of calls le lt is in
+  one_call {calls} {es} {rs} {t} {made} {recorded} {fs} {ts} {n} {u} {k} {v} {e} {after}
+      go in_calls in_events told_n is fits up told =
+      let lent = told_n.exact in
       let same_n : recorded + n - recorded ≡ n = omega arith in
-      let in_events : made < length fs = omega (arith, at.1) in
       let in_records : recorded + n ≤ length ts = omega (arith, go.of_records) in
       subst (λ (p : ℕ × ℕ).
       Going sound memory marks reach c calls es rs v (made + 1) (recorded + p.0) (set fs made e)
       (put_mid recorded p.1 ts after))
       (λ i. (sym (up ∙ ap (λ m. used m e) (sym lent)) i, sym same_n i))
-      (one_more calls es rs t made recorded fs ts go n v e after at.0 in_events (lent ∙ ap given at.2) in_records
+      (one_more calls es rs t made recorded fs ts go n v e after in_calls in_events (lent ∙ ap given is) in_records
       (subst (λ (p : Call S × ℕ).
       MakeTold sound memory marks reach c t p.0 (take p.1 (drop recorded ts)) (v, e) after)
-      (λ i. (at.2 i, same_n i)) told))
+      (λ i. (is i, same_n i)) told))
 
   -- the end
   ended : {calls : List (Call S)} {es : List Event} {rs : List Answer} {t : Take S R M} {made recorded : ℕ}
@@ -227,14 +229,12 @@ module _ {S R M : Type 0} {sound : S → ℕ} {memory : R → Memory} {marks : M
 
   -- for want of room for a run's records
   pub stopped : {calls : List (Call S)} {es : List Event} {rs : List Answer} {t : Take S R M} {made recorded : ℕ}
-      {fs : List Event} {ts : List Answer} {room n : ℕ} {k : Call S}
+      {fs : List Event} {ts : List Answer} {n : ℕ} {k : Call S}
       → Going sound memory marks reach c calls es rs t made recorded fs ts
-      → room ≤ length calls → made < length (take room calls) → k ≡ get_or (take room calls) made k
-      → n ≡ given k → length ts - recorded < n
+      → RecordsTold k n → k ≡ get_or calls made Clear → length ts - recorded < n
       → PerformTold sound memory marks reach c calls es rs (record { take = t; made = made; recorded = recorded }) fs ts
-  stopped {calls = calls} go le lt is lent short =
-      let at = call_of calls le lt is in
-      let same = lent ∙ ap given at.2 in
+  stopped go lent is short =
+      let same = lent.exact ∙ ap given is in
       ended go (λ l. inr (omega (arith, same)))
 
   -- or as all are made for which there are calls and events

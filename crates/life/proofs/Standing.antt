@@ -1,5 +1,5 @@
 -- A take at its stage, and the making of a call.
-use Rattle.std.proofs.Common.{◌≡◌, ℕ, ◌≤◌, Bool, true, false, cond, List, [], ◌++◌, length, drop, IfErr, Ok, Err, Option, Result, Bor, sym, refl, ap, ◌∙◌, subst, arith}
+use Rattle.std.proofs.Common.{◌≡◌, ℕ, ◌≤◌, Bool, true, false, cond, List, [], ◌∷◌, ◌++◌, length, drop, IfErr, Ok, Err, Option, Result, Bor, sym, refl, ap, ◌∙◌, subst, arith}
 use Rattle.std.proofs.lemmas.List.{append-nil, drop_all}
 use Rattle.terms.specs.declared.answer.Answer.{Answer}
 use Rattle.terms.specs.declared.answer.BestStretch.{BestStretch}
@@ -124,6 +124,18 @@ module _ {S R M : Type 0} {sound : S → ℕ} {memory : R → Memory} {marks : M
         let there = at_same a.1 refl refl (out (shut_of v) a.0 k n) in
         (staged (shut_of v) a.0, [], there, stand v a.0 a.2, refl);
   }
+
+  -- where the records are not touched, it does not matter which they are
+  pub untouched : {t : Take S R M} {k : Call S} {p : Take S R M × Event} (rs : List Answer)
+      → MakeTold sound memory marks reach c t k [] p [] → MakeTold sound memory marks reach c t k rs p rs
+  untouched {t} {k} {p} rs told = record { exact = λ s st. go s (told.exact s st) }
+    where
+      go : (s : Stage S) → (u : Stage S) × (bs : List Answer) × Outcome sound reach c s k p.1 bs u
+          × Stands sound memory marks p.0 u × ([] ≡ bs ++ drop (length bs) [])
+          → (u : Stage S) × (bs : List Answer) × Outcome sound reach c s k p.1 bs u
+          × Stands sound memory marks p.0 u × (rs ≡ bs ++ drop (length bs) rs)
+      go s (u, [], o, st, e) = (u, [], o, st, refl)
+      go s (u, b ∷ bs, o, st, e) = let z : ◌≡◌ {A = ℕ} 0 1 = cc in absurd (omega arith)
 
 module _ {S : Type 0} (sound : S → ℕ) (reach c : ℕ) where
   stage_at : (ks : List (Call S)) (es : List Event) (s : Stage S)

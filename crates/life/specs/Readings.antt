@@ -74,6 +74,10 @@ module _ {S : Type 0} where
   given (Run p n) = n
   given _ = 0
 
+  -- what a call tells of them; a record, so that it names the call
+  pub record RecordsTold (k : Call S) (n : ℕ) : Type 0 where
+    pub exact : n ≡ given k
+
 -- how many of n records that a call is given it uses up: all of them where it is an accepted run
 abbrev pub used : ℕ → Event → ℕ
 used n (Ok Ran) = n

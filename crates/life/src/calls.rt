@@ -1,5 +1,5 @@
 ghost use Rattle.std.specs.Prelude.{◌≡◌};
-ghost use Rattle.life.specs.Readings.{given, used};
+ghost use Rattle.life.specs.Readings.{given, used, RecordsTold};
 
 use finder::takes::{Closed, Rolling};
 use readers::reader::Reader;
@@ -24,7 +24,7 @@ pub enum Call<'a, S> {
 impl<S> Call<'_, S> {
     // How many records the call is given.
     pub(crate) fn records(&self) -> usize
-        ensures { result ≡ given self.now }
+        ensures { RecordsTold self.now result }
     {
         if let Call::Run(_, n) = self { *n } else { 0 }
     }

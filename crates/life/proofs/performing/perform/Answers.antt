@@ -1,6 +1,6 @@
 use Rattle.std.proofs.Common.{rules, ◌≡◌, length, min, arith}
 use Rattle.life.specs.Promises.{rolls}
-use Rattle.life.proofs.Going.{begun, one_call, stopped, all_made}
+use Rattle.life.proofs.Going.{begun, turn_within, call_read, call_handed, one_call, stopped, all_made}
 use Rattle.life.proofs.performing.perform.Goals as goal
 
 pub loop-made-init : goal.loop-made-init
@@ -8,14 +8,15 @@ loop-made-init g c = begun (rolls c.new.ensures)
 
 pub returns-then-records-recorded : goal.returns-then-records-recorded
 returns-then-records-recorded g c =
-    stopped {n = c.records-given.result} c.loop-made.invariant (omega (arith, c.min-room.ensures)) c.loop-made-test.true c.call-item.is
-    (search rules) (omega (arith, c.if-records-recorded.true))
+    let on = turn_within c.args.calls.now (omega (arith, c.min-room.ensures)) c.loop-made-test.true in
+    stopped c.loop-made.invariant c.records-given.ensures (search (rules, on, call_handed, call_read)) (omega (arith, c.if-records-recorded.true))
 
 pub loop-made-preserved : goal.loop-made-preserved
 loop-made-preserved g c =
-    one_call {n = c.records-given.result} c.loop-made.invariant (omega (arith, c.min-room.ensures))
-    (omega (arith, c.min-room.ensures, c.loop-made.auto.events)) c.loop-made-test.true c.call-item.is
-    (search rules) (omega (arith, c.if-records-recorded.false)) c.records_used-recorded.ensures c.make-next.ensures
+    let on = turn_within c.args.calls.now (omega (arith, c.min-room.ensures)) c.loop-made-test.true in
+    one_call c.loop-made.invariant on.0 (omega (arith, on.1, c.min-room.ensures, c.loop-made.auto.events))
+    c.records-given.ensures (search (rules, on, call_handed, call_read)) (omega (arith, c.if-records-recorded.false))
+    c.records_used-recorded.ensures c.make-next.ensures
 
 pub returns : goal.returns
 returns g c =

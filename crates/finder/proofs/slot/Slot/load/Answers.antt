@@ -28,7 +28,7 @@ returns g c =
       exact = (
         sym (ap₂ (λ n zs. load_refusal (g.R.Reader.reaches n) zs c.args.q n) c.SOUNDS.ensures ps) ∙ e.0,
         represents_begun g.S.Step.sound g.R.Reader.memory g.M.Row.marks _ c.begin.new.self _ c.args.phrase.now c.args.q c.begin.ensures refl refl
-            (e.1 ∙ ap (λ zs. held zs c.args.q []) ps),
+            (e.1 ∙ ap (λ zs. held zs c.args.q []) ps) c.for_codes-self.ensures,
       );
       kept = tt;
     }
