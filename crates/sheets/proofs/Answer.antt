@@ -11,6 +11,9 @@ use Rattle.sheets.proofs.Sheets.{held, all_pass, lettered}
 pub refused : (bs : List ℕ) (e : SheetRefusal) → FirstFailing (sheet_checks bs) e → Refused bs e
 refused bs e f = record { first = f; none = λ c a eq. not_both (sheet_checks bs) e (subst (λ b. AllPass (sheet_checks b)) eq (all_pass c a)) f }
 
+pub at_head : (bs : List ℕ) (e : SheetRefusal) → FirstFailing (head_checks bs) e → Refused bs e
+at_head bs e f = refused bs e (search (rules, f))
+
 pub accepted : (bs : List ℕ) → ((i : ℕ) → get_or bs i 0 < 256) → AllPass (sheet_checks bs) → (s : Sheet) → s.kind ≡ kind_of bs → s.figure ≡ get_or bs 1 0 → IsPhrase s.phrase 4 (phrase_count bs) (section (kind_of bs) bs 4 (phrase_count bs)) → IsTake s.played (take_place (kind_of bs) bs) (take_steps (kind_of bs) bs) (section (kind_of bs) bs (take_place (kind_of bs) bs) (take_steps (kind_of bs) bs)) → Accepted bs s
 accepted bs small p s ek ef isp ist =
     let k = kind_of bs in

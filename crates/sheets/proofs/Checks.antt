@@ -1,9 +1,21 @@
 -- Checks in order: what the first that fails says of all of them.
-use Rattle.std.proofs.Common.{◌≡◌, ℕ, ◌+◌, ◌*◌, ◌≤◌, List, [], ◌∷◌, length, ⊎_elim, arith, length-drop, length-take}
+use Rattle.std.proofs.Common.{◌≡◌, ℕ, ◌+◌, ◌*◌, ◌≤◌, List, [], ◌∷◌, ◌++◌, length, inl, inr, ⊎_elim, arith, length-drop, length-take}
 use Rattle.sheets.specs.declared.fault.SheetRefusal.{SheetRefusal}
 use Rattle.sheets.specs.declared.kind.Kind.{Kind}
 use Rattle.sheets.specs.Layout.{step_size}
 use Rattle.sheets.specs.Order.{Check, AllPass, FirstFailing, section}
+
+pub first_in : (ls ms : List Check) (e : SheetRefusal) → FirstFailing ls e → FirstFailing (ls ++ ms) e
+first_in [] ms e f = absurd f
+first_in (l ∷ ls) ms e f = ⊎_elim inl (λ g. inr (g.0, first_in ls ms e g.1)) f
+
+pub first_after : (ls ms : List Check) (e : SheetRefusal) → AllPass ls → FirstFailing ms e → FirstFailing (ls ++ ms) e
+first_after [] ms e p f = f
+first_after (l ∷ ls) ms e p f = inr (p.0, first_after ls ms e p.1 f)
+
+pub passed_both : (ls ms : List Check) → AllPass ls → AllPass ms → AllPass (ls ++ ms)
+passed_both [] ms p q = q
+passed_both (l ∷ ls) ms p q = (p.0, passed_both ls ms p.1 q)
 
 pub not_both : (ls : List Check) (e : SheetRefusal) → AllPass ls → FirstFailing ls e → ⊥
 not_both [] e p f = f

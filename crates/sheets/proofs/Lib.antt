@@ -1,5 +1,6 @@
 pub mod Answer
 pub mod Cut
+pub mod Equal
 pub mod Checks
 pub mod Once
 pub mod Rows

@@ -1,5 +1,5 @@
 -- A row of steps, and its bytes.
-use Rattle.std.proofs.Common.{◌≡◌, ℕ, zero, suc, ◌+◌, ◌*◌, List, [], ◌∷◌, ◌++◌, length, take, drop, sym, refl, ap, ◌∙◌, subst, add-mul, one-mul, zero-mul, arith, length-append, length-drop, take-append-drop}
+use Rattle.std.proofs.Common.{◌≡◌, ℕ, zero, suc, ◌+◌, ◌*◌, ◌<◌, List, [], ◌∷◌, ◌++◌, map, length, get_or, take, drop, sym, refl, ap, ◌∙◌, subst, add-mul, one-mul, zero-mul, arith, length-append, length-drop, take-append-drop}
 use Rattle.std.proofs.lemmas.List.{drop-drop, take_at, drop_at, nil_from_length}
 use Rattle.std.specs.List.{flat_map}
 use Rattle.sheets.specs.Layout.{part, Written, AllSteps}
@@ -31,3 +31,11 @@ module _ {S : Type 0} (bytes : S → List ℕ) (w : ℕ) where
     spread (s ∷ ss) (suc i) h =
         let later = spread ss i (omega arith) in
         (later.0, later.1 ∙ ap (λ bs. part w bs i) (sym (drop_at (bytes s) (flat_map bytes ss) w (sized s))) ∙ sym (part_later (flat_map bytes (s ∷ ss)) i) ∙ ap (part w (flat_map bytes (s ∷ ss))) (omega arith))
+
+    -- the i-th part is the bytes of the i-th step, and its sound the i-th
+    pub placed : (sound : S → ℕ) (ss : List S) (i : ℕ) → i < length ss → (s : S) × (bytes s ≡ part w (flat_map bytes ss) i) × (sound s ≡ get_or (map sound ss) i 0)
+    placed sound [] i h = absurd (omega arith)
+    placed sound (s ∷ ss) zero h = (s, sym (ap (λ k. take w (drop k (flat_map bytes (s ∷ ss)))) (zero-mul w) ∙ take_at (bytes s) (flat_map bytes ss) w (sized s)), refl)
+    placed sound (s ∷ ss) (suc i) h =
+        let later = placed sound ss i (omega arith) in
+        (later.0, later.1 ∙ ap (λ bs. part w bs i) (sym (drop_at (bytes s) (flat_map bytes ss) w (sized s))) ∙ sym (part_later (flat_map bytes (s ∷ ss)) i) ∙ ap (part w (flat_map bytes (s ∷ ss))) (omega arith), later.2)
